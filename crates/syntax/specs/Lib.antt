@@ -1,0 +1,4 @@
+pub mod Rows
+pub mod Trees
+pub mod Grammar
+pub mod Faults

@@ -1,0 +1,5 @@
+pub mod Signs
+pub mod Runs
+pub mod Stream
+pub mod Reading
+pub mod Faults
