@@ -1,12 +1,24 @@
 // A refusal as people read it: the fault's numbers, file, line and column, the line with the word underlined, and the
 // refusal in plain words.
+ghost use mathlib.Core.Path.{_≡_};
+ghost use lib.ListN.{take};
+ghost use Rattle.std.specs.Of.String.{string-bytes};
+ghost use Rattle.std.specs.Vec.{made};
+ghost use Rattle.std.specs.shelf.Lists.{countBy};
+ghost use Rattle.listing.specs.Lines.{faultLine, isLineFeed, LineStart};
 use std::alloc::AllocError;
 use std::alloc::Global;
 use words::fault::Report;
 
 /// The fault on one line, as programs read it.
-pub fn fault_line(heap: Global, report: Report) -> Result<String, AllocError> {
-    let Report { number, layer, text, place, len } = report;
+pub fn fault_line(heap: Global, report: Report) -> Result<String, AllocError>
+    ensures { λ r. ⌜ made r (λ s. string-bytes s ≡ faultLine report) ⌝ }
+{
+    let number = report.number;
+    let layer = report.layer;
+    let text = report.text;
+    let place = report.place;
+    let len = report.len;
     format!(heap, "fault {number} layer {layer} text {text} place {place} length {len}")
 }
 
@@ -30,26 +42,37 @@ pub fn meaning(number: u8) -> &'static str {
     }
 }
 
-// Where the line with the place begins.
-fn line_start(text: &[u8], place: usize) -> usize {
+// Where the last line of what stands before a place begins.
+fn line_start(before: &[u8]) -> usize
+    ensures { λ r. ⌜ LineStart (now (before .entry)) r ⌝ }
+{
     let mut start = 0;
-    for (i, b) in text.iter().enumerate() {
-        if i < place && *b == b'\n' {
-            start = i.saturating_add(1);
+    for (i, b) in before.iter().enumerate() {
+        if *b == b'\n' {
+            start = i + 1;
         }
     }
     start
 }
 
-// The number of the line with the place, from 1.
-fn line_number(text: &[u8], place: usize) -> usize {
-    let mut line: usize = 1;
-    for (i, b) in text.iter().enumerate() {
-        if i < place && *b == b'\n' {
-            line = line.saturating_add(1);
+// How many lines end in what stands before a place.
+fn line_feeds(before: &[u8]) -> usize
+    ensures { λ r. ⌜ r ≡ countBy isLineFeed (now (before .entry)) ⌝ }
+{
+    let mut count = 0;
+    for b in before {
+        if *b == b'\n' {
+            count += 1;
         }
     }
-    line
+    count
+}
+
+// What stands before a place of a text.
+fn front(text: &[u8], place: usize) -> &[u8]
+    ensures { λ r. ⌜ now r ≡ take place (now (text .entry)) ⌝ }
+{
+    if place < text.len() { &text[0..place] } else { text }
 }
 
 // A byte as one printed character.
@@ -79,9 +102,10 @@ fn push_times(out: &mut String, c: char, count: usize) -> Result<(), AllocError>
 /// wrong. At the text's end one mark stands where the next word would.
 pub fn explain(heap: Global, file: &str, text: &[u8], report: Report) -> Result<String, AllocError> {
     let mut out = fault_line(heap, report)?;
-    let start = line_start(text, report.place);
-    let indent = report.place.saturating_sub(start);
-    let line = line_number(text, report.place);
+    let before = front(text, report.place);
+    let start = line_start(before);
+    let indent = before.len() - start;
+    let line = line_feeds(before).saturating_add(1);
     let column = indent.saturating_add(1);
     let position = format!(heap, "\n{file}:{line}:{column}\n")?;
     out.push_str(position.as_str())?;
