@@ -1,0 +1,2 @@
+pub mod Replicates
+pub mod Shown

@@ -1,11 +1,13 @@
 // A refusal as people read it: the fault's numbers, file, line and column, the line with the word underlined, and the
 // refusal in plain words.
 ghost use mathlib.Core.Path.{_≡_};
-ghost use lib.ListN.{take};
+ghost use mathlib.Core.List.{map};
+ghost use Prim.Native.Nat.{_<_, _≤_};
+ghost use lib.ListN.{length, drop, replicate, take};
 ghost use Rattle.std.specs.Of.String.{string-bytes};
 ghost use Rattle.std.specs.Vec.{made};
-ghost use Rattle.std.specs.shelf.Lists.{countBy};
-ghost use Rattle.listing.specs.Lines.{faultLine, isLineFeed, LineStart};
+ghost use Rattle.std.specs.shelf.Lists.{countBy, leading};
+ghost use Rattle.listing.specs.Lines.{faultLine, inLine, isLineFeed, shownByte, LineStart};
 use std::alloc::AllocError;
 use std::alloc::Global;
 use words::fault::Report;
@@ -22,8 +24,8 @@ pub fn fault_line(heap: Global, report: Report) -> Result<String, AllocError>
     format!(heap, "fault {number} layer {layer} text {text} place {place} length {len}")
 }
 
-/// A refusal's number in plain words.
-pub fn meaning(number: u8) -> &'static str {
+// A refusal's number in plain words.
+fn meaning(number: u8) -> &'static str {
     match number {
         2 => "the text has more than 4096 bytes",
         3 => "no word begins here, or a name or number is too long",
@@ -75,47 +77,72 @@ fn front(text: &[u8], place: usize) -> &[u8]
     if place < text.len() { &text[0..place] } else { text }
 }
 
-// A byte as one printed character.
-fn shown(b: u8) -> char {
-    if b >= 32 && b < 127 { char::from(b) } else { ' ' }
+// A byte as one printed character: itself, or a space where it cannot be printed.
+fn shown(b: u8) -> u8
+    ensures { λ r. ⌜ r ≡ shownByte b ⌝ }
+{
+    if b >= 32 && b < 127 { b } else { b' ' }
 }
 
-// The line of the text that begins at `start`, each byte one character wide.
-fn push_line(out: &mut String, text: &[u8], start: usize) -> Result<(), AllocError> {
-    for b in text.iter().skip(start) {
+// How many bytes the line has that a text begins with.
+fn line_len(text: &[u8]) -> usize
+    ensures within { λ r. ⌜ r ≤ length (now (text .entry)) ⌝ }
+    ensures value { λ r. ⌜ r ≡ leading inLine (now (text .entry)) ⌝ }
+{
+    for (i, b) in text.iter().enumerate() {
         if *b == b'\n' {
-            return Ok(());
+            return i;
         }
-        out.push(shown(*b))?;
     }
-    Ok(())
+    text.len()
 }
 
-fn push_times(out: &mut String, c: char, count: usize) -> Result<(), AllocError> {
-    for _ in 0..count {
-        out.push(c)?;
+// The line of a text that begins at `start`.
+fn line_at(text: &[u8], start: usize) -> &[u8]
+    ensures { λ r. ⌜ now r ≡ take (leading inLine (drop start (now (text .entry)))) (drop start (now (text .entry))) ⌝ }
+{
+    if start >= text.len() {
+        return &[];
     }
-    Ok(())
+    let rest = &text[start..];
+    &rest[0..line_len(rest)]
+}
+
+// Bytes, each as one printed character.
+fn show(heap: Global, bytes: &[u8]) -> Result<String, AllocError>
+    ensures { λ r. ⌜ made r (λ s. string-bytes s ≡ map shownByte (now (bytes .entry))) ⌝ }
+{
+    let mut out = String::new(heap);
+    for b in bytes {
+        out.push(char::from(shown(*b)))?;
+    }
+    Ok(out)
+}
+
+// A character that stands `count` times.
+fn times(heap: Global, c: u8, count: usize) -> Result<String, AllocError>
+    requires { ⌜ c < 128 ⌝ }
+    ensures { λ r. ⌜ made r (λ s. string-bytes s ≡ replicate count c) ⌝ }
+{
+    let mut out = String::new(heap);
+    for _i in 0..count {
+        out.push(char::from(c))?;
+    }
+    Ok(out)
 }
 
 /// The refusal for people: the fault line, then file, line and column, the line with the word underlined, and what is
 /// wrong. At the text's end one mark stands where the next word would.
 pub fn explain(heap: Global, file: &str, text: &[u8], report: Report) -> Result<String, AllocError> {
-    let mut out = fault_line(heap, report)?;
+    let fault = fault_line(heap, report)?;
     let before = front(text, report.place);
     let start = line_start(before);
-    let indent = before.len() - start;
     let line = line_feeds(before).saturating_add(1);
-    let column = indent.saturating_add(1);
-    let position = format!(heap, "\n{file}:{line}:{column}\n")?;
-    out.push_str(position.as_str())?;
-    push_line(&mut out, text, start)?;
-    out.push('\n')?;
-    push_times(&mut out, ' ', indent)?;
-    push_times(&mut out, '^', report.len.max(1))?;
+    let column = (before.len() - start).saturating_add(1);
+    let row = show(heap, line_at(text, start))?;
+    let indent = times(heap, b' ', before.len() - start)?;
+    let marks = times(heap, b'^', report.len.max(1))?;
     let number = report.number;
     let words = meaning(number);
-    let told = format!(heap, "\nrefused {number}: {words}\n")?;
-    out.push_str(told.as_str())?;
-    Ok(out)
+    format!(heap, "{fault}\n{file}:{line}:{column}\n{row}\n{indent}{marks}\nrefused {number}: {words}\n")
 }
