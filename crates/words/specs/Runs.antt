@@ -2,7 +2,7 @@
 --   blank b, letter b, digit b, inName b      what a byte is
 --   run P bs                                  how many bytes at the front of bs are P
 use Prim.Native.Nat.{ℕ, _+_}
-use mathlib.Core.Bool.{Bool, true, false, cond, _||_, _&&_}
+use mathlib.Core.Bool.{Bool, cond, _||_, _&&_}
 use mathlib.Core.List.{List, [], _∷_}
 use lib.Dec.{leb, eqb}
 

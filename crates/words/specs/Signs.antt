@@ -2,12 +2,14 @@
 --   padded n bs      bs with zeros behind, n bytes in all
 --   nameOf bs        the name with the bytes bs
 --   spelling k       the bytes of a reserved word
+--   Numeral          a number as it stands in a text
 --   Sign             what a word says, its bytes in place of where they lie
 --   Word             what a word says, with its place
+--   markSize m       how many bytes a mark has
 --   sizeOf x         how many bytes a word has that says x
 --   said w           what a word of the reader says
-use Prim.Native.Nat.{ℕ, _+_, _-_}
-use mathlib.Core.List.{List, [], _∷_, _++_}
+use Prim.Native.Nat.{ℕ, _-_}
+use mathlib.Core.List.{List, _++_}
 use lib.ListN.{length, replicate}
 use lib.Chars.{codes}
 use Rattle.words.specs.declared.name.Name.{Name as NameBytes}
@@ -47,7 +49,6 @@ spelling k.Lost = codes "lost"
 spelling k.Jump = codes "jump"
 spelling k.End = codes "end"
 
--- a number as it stands in a text
 pub record Numeral : Type 0 where
   pub place : ℕ
   pub bytes : List ℕ

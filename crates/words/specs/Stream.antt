@@ -1,19 +1,22 @@
 -- The words of a text, in the order in which they are fetched.
+--   keywords          the reserved words
 --   reserved bs       the reserved word with the bytes bs, if one has them
---   Lexeme            what begins at a byte that is no blank: a word with its length, or none (how many bytes are at fault)
+--   Lexeme            what begins at a byte that is no blank: a word, or none, with how many bytes are at fault
 --   lexeme bs p       what begins at the place p, where the text goes on with bs
 --   Stream            words, one after the other, up to the text's end or to the first byte that begins no word
 --   stream bs k p     the words of bs, which begins at the place p, after its first k bytes
 --   wordsOf text      the words of a text
 --   headOf, tailOf    what is fetched first, and what is then left
+--   size s            how many words s has
 --   bytesIn s         how many bytes the words of s have
 --   Proper s          names say their own place, and no word is empty
 use Prim.Native.Nat.{ℕ, _+_, _-_, _≤_}
 use mathlib.Core.Path.{_≡_}
-use mathlib.Core.Bool.{Bool, true, false, cond, _||_, _&&_}
+use mathlib.Core.Bool.{cond}
 use mathlib.Core.List.{List, [], _∷_}
-use lib.ListN.{length, take, drop, getD}
-use lib.Dec.{leb, eqb, ltb}
+use lib.ListN.{take, drop, getD}
+use lib.Dec.{eqb, ltb}
+use Rattle.std.specs.shelf.Text.{sameBytes}
 use Rattle.std.specs.declared.option.Option.{Option}
 use Rattle.std.specs.declared.option.Option.the-variants.{Some, None}
 use Rattle.std.specs.declared.result.Result.{Result}
@@ -24,31 +27,25 @@ use Rattle.words.specs.declared.word.Keyword.the-variants as k
 use Rattle.words.specs.declared.word.Mark.the-variants as m
 use Rattle.words.specs.declared.fault.Source.{Source}
 use Rattle.words.specs.declared.fault.WordFault.{WordFault}
-use Rattle.words.specs.declared.fault.WordFault.the-variants.{TooLarge, NoWord}
-use Rattle.words.specs.Signs.{Sign, Word, Numeral, nameOf, spelling, sizeOf}
+use Rattle.words.specs.declared.fault.WordFault.the-variants.{NoWord}
+use Rattle.words.specs.Signs.{Sign, Word, nameOf, spelling, sizeOf}
 use Rattle.words.specs.Signs as s
 use Rattle.words.specs.Runs.{blank, letter, digit, inName, run}
-
-abbrev pub sameBytes : List ℕ → List ℕ → Bool
-sameBytes [] [] = true
-sameBytes [] (y ∷ ys) = false
-sameBytes (x ∷ xs) [] = false
-sameBytes (x ∷ xs) (y ∷ ys) = cond (eqb x y) (sameBytes xs ys) false
-
-abbrev pub firstSpelled : List Keyword → List ℕ → Option Keyword
-firstSpelled [] bs = None
-firstSpelled (x ∷ xs) bs = cond (sameBytes bs (spelling x)) (Some x) (firstSpelled xs bs)
 
 abbrev pub keywords : List Keyword
 keywords =
     k.Contract ∷ k.Out ∷ k.In ∷ k.Block ∷ k.Exp ∷ k.Imp ∷ k.State ∷ k.Process ∷ k.New ∷ k.Put ∷ k.Free ∷ k.Open ∷ k.Close ∷ k.Send
     ∷ k.Pass ∷ k.Receive ∷ k.Case ∷ k.Lost ∷ k.Jump ∷ k.End ∷ []
 
+abbrev pub firstSpelled : List Keyword → List ℕ → Option Keyword
+firstSpelled [] bs = None
+firstSpelled (x ∷ xs) bs = cond (sameBytes bs (spelling x)) (Some x) (firstSpelled xs bs)
+
 abbrev pub reserved : List ℕ → Option Keyword
 reserved bs = firstSpelled keywords bs
 
 pub data Lexeme : Type 0 where
-  one : Sign → ℕ → Lexeme
+  one : Sign → Lexeme
   none : ℕ → Lexeme
 
 -- a run of name bytes is a reserved word or a name
@@ -56,45 +53,49 @@ abbrev pub keyOrName : Option Keyword → List ℕ → ℕ → Sign
 keyOrName (Some x) bs p = s.Key x
 keyOrName None bs p = s.Name (record { place = p; name = nameOf bs })
 
+-- the first n bytes, which are a run of name bytes
 abbrev pub nameLexeme : List ℕ → ℕ → ℕ → Lexeme
-nameLexeme bs p n = cond (ltb 16 n) (none n) (one (keyOrName (reserved (take n bs)) (take n bs) p) n)
+nameLexeme bs n p = cond (ltb 16 n) (none n) (one (keyOrName (reserved (take n bs)) (take n bs) p))
 
--- a number: a minus or none (minus is 1 or 0), then digits
+-- a minus or none (minus is 1 or 0), then a run of digits
 abbrev pub numberLexeme : List ℕ → ℕ → ℕ → ℕ → Lexeme
-numberLexeme bs p minus digits =
-    cond (ltb 3 digits) (none (minus + digits)) (one (s.Number (record { place = p; bytes = take (minus + digits) bs })) (minus + digits))
+numberLexeme bs minus digits p =
+    cond (ltb 3 digits) (none (minus + digits)) (one (s.Number (record { place = p; bytes = take (minus + digits) bs })))
 
--- what begins at a minus, with what stands behind it
+-- what begins at a minus
 abbrev pub minusLexeme : List ℕ → ℕ → Lexeme
-minusLexeme rest p =
-    cond (eqb (getD rest 0 0) 62) (one (s.Mark m.Arrow) 2)
-    (cond (digit (getD rest 0 0)) (numberLexeme (45 ∷ rest) p 1 (run digit rest)) (none 1))
+minusLexeme bs p =
+    cond (eqb (getD bs 1 0) 62) (one (s.Mark m.Arrow))
+    (cond (digit (getD bs 1 0)) (numberLexeme bs 1 (run digit (drop 1 bs)) p) (none 1))
 
-abbrev pub lexeme : ℕ → List ℕ → ℕ → Lexeme
-lexeme b rest p =
-    cond (letter b) (nameLexeme (b ∷ rest) p (run inName (b ∷ rest)))
-    (cond (digit b) (numberLexeme (b ∷ rest) p 0 (run digit (b ∷ rest)))
-    (cond (eqb b 45) (minusLexeme rest p)
-    (cond (eqb b 123) (one (s.Mark m.OpenBrace) 1)
-    (cond (eqb b 125) (one (s.Mark m.CloseBrace) 1)
-    (cond (eqb b 59) (one (s.Mark m.Semicolon) 1)
-    (cond (eqb b 33) (one (s.Mark m.Bang) 1)
-    (cond (eqb b 63) (one (s.Mark m.Question) 1) (none 1))))))))
+-- what begins at any other byte than a letter, a digit or a minus
+abbrev pub markLexeme : ℕ → Lexeme
+markLexeme b =
+    cond (eqb b 123) (one (s.Mark m.OpenBrace))
+    (cond (eqb b 125) (one (s.Mark m.CloseBrace))
+    (cond (eqb b 59) (one (s.Mark m.Semicolon)) (cond (eqb b 33) (one (s.Mark m.Bang)) (cond (eqb b 63) (one (s.Mark m.Question)) (none 1)))))
+
+abbrev pub lexeme : List ℕ → ℕ → Lexeme
+lexeme bs p =
+    cond (letter (getD bs 0 0)) (nameLexeme bs (run inName bs) p)
+    (cond (digit (getD bs 0 0)) (numberLexeme bs 0 (run digit bs) p)
+    (cond (eqb (getD bs 0 0) 45) (minusLexeme bs p) (markLexeme (getD bs 0 0))))
 
 pub data Stream : Type 0 where
   stop : ℕ → Stream
   bad : ℕ → ℕ → Stream
   word : Word → Stream → Stream
 
+-- what begins at the place p, and onward from there after so many bytes
 abbrev pub fetched : Lexeme → ℕ → (ℕ → Stream) → Stream
-fetched (one x n) p onward = word (record { place = p; sign = x }) (onward n)
+fetched (one x) p onward = word (record { place = p; sign = x }) (onward (sizeOf x))
 fetched (none n) p onward = bad p n
 
 abbrev pub stream : List ℕ → ℕ → ℕ → Stream
 stream [] k p = stop p
 stream (b ∷ bs) k p =
     cond (ltb 0 k) (stream bs (k - 1) (p + 1))
-    (cond (blank b) (stream bs 0 (p + 1)) (fetched (lexeme b bs p) p (λ n. stream bs (n - 1) (p + 1))))
+    (cond (blank b) (stream bs 0 (p + 1)) (fetched (lexeme (b ∷ bs) p) p (λ n. stream bs (n - 1) (p + 1))))
 
 abbrev pub wordsOf : List ℕ → Stream
 wordsOf text = stream text 0 0
