@@ -1,4 +1,7 @@
 // The faults of a text that its grammar and its limits find.
+ghost use mathlib.Core.Path.{_≡_};
+ghost use Rattle.syntax.specs.Faults.{grammarReport};
+use words::fault::Report;
 use words::fault::Span;
 use words::fault::WordFault;
 
@@ -15,4 +18,19 @@ pub enum GrammarFault {
     TooMany(Span),
     /// 7: the name stands a second time in its family.
     Repeated(Span),
+}
+
+impl GrammarFault {
+    /// The fault as the station shows it: 2 and 3 with layer 1, 4 to 7 with layer 2.
+    pub fn report(self) -> Report
+        ensures { λ r. ⌜ r ≡ grammarReport self ⌝ }
+    {
+        match self {
+            GrammarFault::Word(fault) => fault.report(),
+            GrammarFault::Unexpected(span) => span.report(4, 2),
+            GrammarFault::OutOfRange(span) => span.report(5, 2),
+            GrammarFault::TooMany(span) => span.report(6, 2),
+            GrammarFault::Repeated(span) => span.report(7, 2),
+        }
+    }
 }

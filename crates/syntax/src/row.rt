@@ -28,6 +28,20 @@ impl<T: Copy, const N: usize> Row<T, N> {
         &self.items[..self.len]
     }
 
+    /// The table, with what stands in the unused places.
+    pub fn table(&self) -> [T; N]
+        ensures { λ r. ⌜ r ≡ now (self .entry) .items ⌝ }
+    {
+        self.items
+    }
+
+    /// How many elements there are.
+    pub fn len(&self) -> usize
+        ensures { λ r. ⌜ r ≡ now (self .entry) .len ⌝ }
+    {
+        self.len
+    }
+
     /// One element more at the end; false, with nothing changed, where the row is full.
     pub fn push(&mut self, x: T) -> bool
         ensures room { λ r. ⌜ (length (take (now (self .entry) .len) (now (self .entry) .items)) < N → (r ≡ true) × (take (now (self .exit) .len) (now (self .exit) .items) ≡ take (now (self .entry) .len) (now (self .entry) .items) ++ x ∷ [])) ⌝ }

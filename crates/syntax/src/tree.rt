@@ -69,6 +69,13 @@ pub struct Tree {
 }
 
 impl Tree {
+    // The contracts and moves in these tables.
+    pub(crate) fn new(heads: Row<Head, 8>, moves: Row<MoveEntry, 682>) -> Tree
+        ensures { λ r. ⌜ (rowItems (r .heads) ≡ rowItems heads) × (rowItems (r .moves) ≡ rowItems moves) ⌝ }
+    {
+        Tree { heads, moves }
+    }
+
     /// What each contract declares, in the order of the text.
     pub fn heads(&self) -> &[Head]
         ensures { λ r. ⌜ now r ≡ rowItems (now (self .entry) .heads) ⌝ }
