@@ -1,3 +1,16 @@
+pub mod Acceptance
+pub mod Families
 pub mod Faults
+pub mod Laws
+pub mod Moves
 pub mod Names
 pub mod Numbers
+pub mod Paths
+pub mod Rules
+pub mod Searches
+pub mod Tables
+pub mod Transfers
+pub mod View
+pub mod Written
+pub mod Judgement
+pub mod Checks

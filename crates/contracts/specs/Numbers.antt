@@ -1,17 +1,24 @@
--- A contract file with numbers in place of names.
+-- A contract file with numbers in place of names. Contracts, and what each declares, are a list hs.
 --   declarationAt ds k, writtenAt ws i    the k-th declaration, the i-th move
---   PayloadAs p x y                       y is the payload x by numbers
---   DeclaredAs p h d                      d is what h declares, by numbers
---   WrittenAs p e w                       w is the move e by numbers
+--   PayloadAs hs x y                      y is the payload x by numbers
+--   MessageAs hs x y                      y is the message x by numbers
+--   MessagesAs hs xs ys                   ys begins with the messages xs by numbers
+--   StatesAs xs ys                        ys begins with the names xs
+--   DeclaredAs hs h d                     d is what h declares, by numbers
+--   WrittenAs hs e w                      w is the move e by numbers
+--   Declared hs ds                        ds is what the contracts declare, by numbers
+--   Moved hs es ws                        ws are the moves es by numbers
 --   Numbers p ds ws                       ds and ws are the declarations and the moves of p by numbers
 use Prim.Native.Nat.{ℕ, _<_}
 use mathlib.Core.Path.{_≡_}
 use mathlib.Core.List.{List, []}
 use lib.ListN.{length, getD}
 use Rattle.words.specs.declared.name.Name.{Name}
+use Rattle.words.specs.declared.name.Ident.{Ident}
 use Rattle.syntax.specs.declared.tree.Mark.the-variants.{Out}
 use Rattle.syntax.specs.declared.tree.Payload.{Payload as PayloadTree}
 use Rattle.syntax.specs.declared.tree.Payload.the-variants as t
+use Rattle.syntax.specs.declared.tree.Message.{Message as MessageTree}
 use Rattle.syntax.specs.declared.tree.MoveEntry.{MoveEntry}
 use Rattle.syntax.specs.Trees.{Parts, HeadTree, noIdent, noMove}
 use Rattle.contracts.specs.declared.declaration.Payload.{Payload}
@@ -19,7 +26,7 @@ use Rattle.contracts.specs.declared.declaration.Payload.the-variants.{Nothing,
 use Rattle.contracts.specs.declared.declaration.Message.{Message}
 use Rattle.contracts.specs.declared.declaration.Declaration.{Declaration}
 use Rattle.contracts.specs.declared.declaration.Written.{Written}
-use Rattle.contracts.specs.Names.{headAt, noMessage, ContractNamed, MessageNamed, StateNamed}
+use Rattle.contracts.specs.Names.{headAt, noMessage, EndNamed, MessageNamed, StateNamed}
 
 -- what stands past the end of a list of names, messages, declarations or moves
 abbrev pub noName : Name
@@ -40,29 +47,44 @@ declarationAt ds k = getD ds k undeclared
 abbrev pub writtenAt : List Written → ℕ → Written
 writtenAt ws i = getD ws i unwritten
 
-abbrev pub PayloadAs : Parts → PayloadTree → Payload → Type 0
-PayloadAs p t.Nothing y = y ≡ Nothing
-PayloadAs p t.Block y = y ≡ Block
-PayloadAs p (t.End role c s) y = (k : ℕ) × (u : ℕ) × (y ≡ End role k u) × ContractNamed p (c .name) k × StateNamed p k (s .name) u
+abbrev pub PayloadAs : List HeadTree → PayloadTree → Payload → Type 0
+PayloadAs hs t.Nothing y = y ≡ Nothing
+PayloadAs hs t.Block y = y ≡ Block
+PayloadAs hs (t.End role c s) y = (k : ℕ) × (u : ℕ) × (y ≡ End role k u) × EndNamed hs (c .name) (s .name) k u
 
-pub record DeclaredAs (p : Parts) (h : HeadTree) (d : Declaration) : Type 0 where
+pub record MessageAs (hs : List HeadTree) (x : MessageTree) (y : Message) : Type 0 where
+  pub name : y .name ≡ x .ident .name
+  pub mark : y .mark ≡ x .mark
+  pub payload : PayloadAs hs (x .payload) (y .payload)
+
+abbrev pub MessagesAs : List HeadTree → List MessageTree → List Message → Type 0
+MessagesAs hs xs ys = (m : ℕ) → m < length xs → MessageAs hs (getD xs m noMessage) (getD ys m quiet)
+
+abbrev pub StatesAs : List Ident → List Name → Type 0
+StatesAs xs ys = (s : ℕ) → s < length xs → getD ys s noName ≡ getD xs s noIdent .name
+
+pub record DeclaredAs (hs : List HeadTree) (h : HeadTree) (d : Declaration) : Type 0 where
   pub name : d .name ≡ h .ident .name
   pub message-count : d .«message_count» ≡ length (h .messages)
   pub state-count : d .«state_count» ≡ length (h .states)
-  pub message-name : (m : ℕ) → m < length (h .messages) → getD (d .messages) m quiet .name ≡ getD (h .messages) m noMessage .ident .name
-  pub message-mark : (m : ℕ) → m < length (h .messages) → getD (d .messages) m quiet .mark ≡ getD (h .messages) m noMessage .mark
-  pub message-payload : (m : ℕ) → m < length (h .messages) → PayloadAs p (getD (h .messages) m noMessage .payload) (getD (d .messages) m quiet .payload)
-  pub state-name : (s : ℕ) → s < length (h .states) → getD (d .states) s noName ≡ getD (h .states) s noIdent .name
+  pub messages : MessagesAs hs (h .messages) (d .messages)
+  pub states : StatesAs (h .states) (d .states)
 
-pub record WrittenAs (p : Parts) (e : MoveEntry) (w : Written) : Type 0 where
+pub record WrittenAs (hs : List HeadTree) (e : MoveEntry) (w : Written) : Type 0 where
   pub contract : w .contract ≡ e .contract
   pub state : w .state ≡ e .state
   pub mark : w .mark ≡ e .step .mark
-  pub message : MessageNamed p (e .contract) (e .step .message .name) (w .message)
-  pub target : StateNamed p (e .contract) (e .step .target .name) (w .target)
+  pub message : MessageNamed hs (e .contract) (e .step .message .name) (w .message)
+  pub target : StateNamed hs (e .contract) (e .step .target .name) (w .target)
+
+pub record Declared (hs : List HeadTree) (ds : List Declaration) : Type 0 where
+  pub count : length ds ≡ length hs
+  pub each : (k : ℕ) → k < length ds → DeclaredAs hs (headAt hs k) (declarationAt ds k)
+
+pub record Moved (hs : List HeadTree) (es : List MoveEntry) (ws : List Written) : Type 0 where
+  pub count : length ws ≡ length es
+  pub each : (i : ℕ) → i < length ws → WrittenAs hs (getD es i noMove) (writtenAt ws i)
 
 pub record Numbers (p : Parts) (ds : List Declaration) (ws : List Written) : Type 0 where
-  pub contracts : length ds ≡ length (p .heads)
-  pub declared : (k : ℕ) → k < length ds → DeclaredAs p (headAt p k) (declarationAt ds k)
-  pub moves : length ws ≡ length (p .moves)
-  pub written : (i : ℕ) → i < length ws → WrittenAs p (getD (p .moves) i noMove) (writtenAt ws i)
+  pub declared : Declared (p .heads) ds
+  pub moved : Moved (p .heads) (p .moves) ws

@@ -1,3 +1,21 @@
 // The rules on contracts, and the sets of contracts that keep them.
+mod broken;
+pub mod check;
+mod contract;
 pub mod declaration;
+mod declared;
 pub mod fault;
+mod judge;
+mod marks;
+mod names;
+mod number;
+mod rank;
+mod resolve;
+mod rule;
+pub mod set;
+mod states;
+mod table;
+mod tabulate;
+mod transfers;
+mod undeclared;
+mod walk;
