@@ -57,20 +57,23 @@ module _ (ws : List Sign) (N : Trail) (x : Sign) (here : Here ws N) (a : At) (o 
   next t e z on = record {
     led = along ask ws (x ∷ []) origin (at N) (here .led) ∙ ap (λ u. onward u (λ r. Some r)) e ∙ on ∙ ap (λ b. Some b) (sym (o .stands));
     said = said′;
-    clean = clean-push [] ws x (here .clean) passed }
+    clean = clean-push [] ws x (here .clean) passed;
+  }
     where
       l : level (among (ask (at N)) x) ≡ 0
       l = ap level e ∙ z
+
       passed : Passed ws x
       passed = record {
         allowed = allowed′;
         within = λ b. not-6 _ l (beyond-level ws (at N) x (here .led) b);
-        fresh = λ b. not-67 _ l (second-level ws (at N) x (here .led) b) }
+        fresh = λ b. not-67 _ l (second-level ws (at N) x (here .led) b);
+      }
 
 -- a text that ends here
 module _ (ws : List Word) (p : ℕ) (N : Trail) (here : Here (signs ws) N) where
   on-end : (o : Option (Turn At Parts)) → among (ask (at N)) s.End ≡ o → Of o (Steps N s.End)
-    → Right (joins ws (stop p)) (after Contracts o (record { place = p; sign = s.End }) (λ _. Err (fault.Unexpected (record { source = Contracts; place = p; len = 0 }))))
+      → Right (joins ws (stop p)) (after Contracts o (record { place = p; sign = s.End }) (λ _. Err (fault.Unexpected (record { source = Contracts; place = p; len = 0 }))))
   on-end None e h =
       (ws, stop p, refl, here .clean, (refl, subst Viable (here .said) (fill N), unfinished (signs ws) (at N) (here .led) e))
   on-end (Some (go a)) e h = absurd (h .1)
@@ -83,8 +86,8 @@ joins-push (v ∷ ws) w r = ap (word v) (joins-push ws w r)
 
 -- a text that goes on with a word
 module _ (ws : List Word) (N : Trail) (w : Word) (r : Stream) (here : Here (signs ws) N)
-  (placed : (n : Ident) → w .sign ≡ s.Name n → n .place ≡ w .place) (sized : 1 ≤ sizeOf (w .sign))
-  (ih : (M : Trail) → Here (signs ws ++ w .sign ∷ []) M → Right (joins ws (word w r)) (run ask Contracts (at M) r)) where
+    (placed : (n : Ident) → w .sign ≡ s.Name n → n .place ≡ w .place) (sized : 1 ≤ sizeOf (w .sign))
+    (ih : (M : Trail) → Here (signs ws ++ w .sign ∷ []) M → Right (joins ws (word w r)) (run ask Contracts (at M) r)) where
   found : (n : Ident) → w .sign ≡ s.Name n → _≡_ (record { source = Contracts; place = n .place; len = n .name .len }) (spanOf w)
   found n e = let p = placed n e in let z : sizeOf (w .sign) ≡ n .name .len = ap sizeOf e in cc
 
@@ -101,7 +104,7 @@ module _ (ws : List Word) (N : Trail) (w : Word) (r : Stream) (here : Here (sign
   seven u e l b = let c : level u ≡ 6 = sym (ap level e) ∙ beyond-level (signs ws) (at N) (w .sign) (here .led) b in omega arith
 
   on : (u : Option (Turn At Parts)) → among (ask (at N)) (w .sign) ≡ u → Of u (Steps N (w .sign))
-    → Right (joins ws (word w r)) (after Contracts u w (λ b. run ask Contracts b r))
+      → Right (joins ws (word w r)) (after Contracts u w (λ b. run ask Contracts b r))
   on None e h = wrong _ (unexpected refl (subst Viable (here .said) (fill N)) (stuck (signs ws) (at N) (w .sign) (here .led) e))
   on (Some (go a)) e h = going a (h .0) (next (signs ws) N (w .sign) here a (h .0) (go a) e refl refl)
   on (Some (new a fine)) e h = going a (h .0) (next (signs ws) N (w .sign) here a (h .0) (new a fine) e refl refl)

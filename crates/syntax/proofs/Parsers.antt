@@ -18,8 +18,8 @@ use Rattle.syntax.specs.Machine.{Progress, addMove, reading}
 use Rattle.syntax.specs.Machine as q
 
 pub added : (p : Progress) (vs : List MoveEntry) (k j : ℕ) (v : Move)
-  → vs ≡ p .moves ++ record { contract = k; state = j; step = v } ∷ [] → k ≡ length (p .heads) → j ≡ length (p .states) - 1
-  → _≡_ {A = Progress} (record { heads = p .heads; moves = vs; ident = p .ident; messages = p .messages; states = p .states }) (addMove p v)
+    → vs ≡ p .moves ++ record { contract = k; state = j; step = v } ∷ [] → k ≡ length (p .heads) → j ≡ length (p .states) - 1
+    → _≡_ {A = Progress} (record { heads = p .heads; moves = vs; ident = p .ident; messages = p .messages; states = p .states }) (addMove p v)
 added p vs k j v e a b = cc
 
 pub heavier : {X : Type 0} (xs ys : List X) (x : X) (n : ℕ) → ys ≡ xs ++ x ∷ [] → 6 * length ys + n ≡ (6 * length xs + n) + 6
@@ -29,5 +29,5 @@ pub states-refuse : (p : Progress) (a : Feed) (f : GrammarFault) → Err f ≡ f
 states-refuse p a f e = search needs
 
 pub joined : (hs ks : List Head) (h : Head) (t : HeadTree) (vs : List MoveEntry) → ks ≡ hs ++ h ∷ [] → declares h ≡ t
-  → _≡_ {A = Parts} (record { heads = map declares ks; moves = vs }) (record { heads = map declares hs ++ t ∷ []; moves = vs })
+    → _≡_ {A = Parts} (record { heads = map declares ks; moves = vs }) (record { heads = map declares hs ++ t ∷ []; moves = vs })
 joined hs ks h t vs e d = let m : map declares ks ≡ map declares hs ++ t ∷ [] = ap (map declares) e ∙ map-push declares hs h ∙ ap (λ x. map declares hs ++ x ∷ []) d in cc

@@ -55,8 +55,8 @@ module _ (pre : List ContractTree) (c : ContractTree) (post : List ContractTree)
   few-contracts : length pre < 8
   few-contracts =
       let r : length (map (λ x. x .ident) pre) < 8 =
-          room (fileWords pre ++ s.Key k.Contract ∷ []) (c .ident) _ _ (each-append contractWords pre (c ∷ post) ∙ sym (append-assoc (fileWords pre) (s.Key k.Contract ∷ []) _)) clean
-          (map (λ x. x .ident) pre) 8 (contracts pre (stated-before pre (c ∷ post) st) refl refl refl) in
+      room (fileWords pre ++ s.Key k.Contract ∷ []) (c .ident) _ _ (each-append contractWords pre (c ∷ post) ∙ sym (append-assoc (fileWords pre) (s.Key k.Contract ∷ []) _)) clean
+      (map (λ x. x .ident) pre) 8 (contracts pre (stated-before pre (c ∷ post) st) refl refl refl) in
       let l = length-map pre (λ x. x .ident) in omega arith
 
   in-contract : (xs ys : List Sign) → contractWords c ≡ xs ++ ys → fileWords (pre ++ c ∷ post) ≡ (fileWords pre ++ xs) ++ (ys ++ fileWords post)
@@ -70,11 +70,11 @@ module _ (pre : List ContractTree) (c : ContractTree) (post : List ContractTree)
       before : (us : List Message) (x : Message) (vs : List Message) → c .messages ≡ us ++ x ∷ vs → length us < 16
       before us x vs e =
           let w : contractWords c ≡ (headWords (c .ident) us ++ wayWord (x .mark) ∷ []) ++ s.Name (x .ident) ∷ (((payloadWords (x .payload) ++ s.Mark m.Semicolon ∷ []) ++ each messageWords vs) ++ (each stateWords (c .states) ++ s.Mark m.CloseBrace ∷ [])) =
-              ap (λ l. s.Key k.Contract ∷ s.Name (c .ident) ∷ s.Mark m.OpenBrace ∷ (l ++ (each stateWords (c .states) ++ s.Mark m.CloseBrace ∷ []))) (ap (each messageWords) e ∙ each-append messageWords us (x ∷ vs))
-              ∙ ap (λ l. s.Key k.Contract ∷ s.Name (c .ident) ∷ s.Mark m.OpenBrace ∷ l) (second (each messageWords us) _ _ _ _) in
+          ap (λ l. s.Key k.Contract ∷ s.Name (c .ident) ∷ s.Mark m.OpenBrace ∷ (l ++ (each stateWords (c .states) ++ s.Mark m.CloseBrace ∷ []))) (ap (each messageWords) e ∙ each-append messageWords us (x ∷ vs))
+          ∙ ap (λ l. s.Key k.Contract ∷ s.Name (c .ident) ∷ s.Mark m.OpenBrace ∷ l) (second (each messageWords us) _ _ _ _) in
           let r : length (map (λ y. y .ident) us) < 16 =
-              room (fileWords pre ++ (headWords (c .ident) us ++ wayWord (x .mark) ∷ [])) (x .ident) _ _ (in-contract _ _ w) clean
-              (map (λ y. y .ident) us) 16 (messages pre (c .ident) us (x .mark) (stated-before pre (c ∷ post) st) refl refl refl) in
+          room (fileWords pre ++ (headWords (c .ident) us ++ wayWord (x .mark) ∷ [])) (x .ident) _ _ (in-contract _ _ w) clean
+          (map (λ y. y .ident) us) 16 (messages pre (c .ident) us (x .mark) (stated-before pre (c ∷ post) st) refl refl refl) in
           let l = length-map us (λ y. y .ident) in omega arith
 
   few-states : length (c .states) ≤ 16
@@ -83,12 +83,12 @@ module _ (pre : List ContractTree) (c : ContractTree) (post : List ContractTree)
       before : (us : List StateTree) (x : StateTree) (vs : List StateTree) → c .states ≡ us ++ x ∷ vs → length us < 16
       before us x vs e =
           let w : contractWords c ≡ (headWords (c .ident) (c .messages) ++ (each stateWords us ++ s.Key k.State ∷ [])) ++ s.Name (x .ident) ∷ ((s.Mark m.OpenBrace ∷ (each moveWords (x .moves) ++ s.Mark m.CloseBrace ∷ []) ++ each stateWords vs) ++ s.Mark m.CloseBrace ∷ []) =
-              ap (λ l. headWords (c .ident) (c .messages) ++ (l ++ s.Mark m.CloseBrace ∷ [])) (ap (each stateWords) e ∙ each-append stateWords us (x ∷ vs))
-              ∙ ap (λ l. headWords (c .ident) (c .messages) ++ l) (second (each stateWords us) _ _ _ _)
-              ∙ sym (append-assoc (headWords (c .ident) (c .messages)) (each stateWords us ++ s.Key k.State ∷ []) _) in
+          ap (λ l. headWords (c .ident) (c .messages) ++ (l ++ s.Mark m.CloseBrace ∷ [])) (ap (each stateWords) e ∙ each-append stateWords us (x ∷ vs))
+          ∙ ap (λ l. headWords (c .ident) (c .messages) ++ l) (second (each stateWords us) _ _ _ _)
+          ∙ sym (append-assoc (headWords (c .ident) (c .messages)) (each stateWords us ++ s.Key k.State ∷ []) _) in
           let r : length (map (λ y. y .ident) us) < 16 =
-              room (fileWords pre ++ (headWords (c .ident) (c .messages) ++ (each stateWords us ++ s.Key k.State ∷ []))) (x .ident) _ _ (in-contract _ _ w) clean
-              (map (λ y. y .ident) us) 16 (states pre (c .ident) (c .messages) us (stated-before pre (c ∷ post) st) refl refl refl) in
+          room (fileWords pre ++ (headWords (c .ident) (c .messages) ++ (each stateWords us ++ s.Key k.State ∷ []))) (x .ident) _ _ (in-contract _ _ w) clean
+          (map (λ y. y .ident) us) 16 (states pre (c .ident) (c .messages) us (stated-before pre (c ∷ post) st) refl refl refl) in
           let l = length-map us (λ y. y .ident) in omega arith
 
 Small : HeadTree → Type 0
@@ -140,10 +140,13 @@ owned pre (c ∷ cs) j e =
   where
     hs : List HeadTree
     hs = map headTree (pre ++ c ∷ cs)
+
     inside : j < length (map headTree (pre ++ c ∷ cs))
     inside = let l = length-map (pre ++ c ∷ cs) headTree in let a = length-append pre (c ∷ cs) in omega arith
+
     this : getD (map headTree (pre ++ c ∷ cs)) j noHead ≡ headTree c
     this = ap (λ l. getD l j noHead) (map-append headTree pre (c ∷ cs)) ∙ getD-at (map headTree pre) (headTree c) (map headTree cs) noHead j (length-map pre headTree ∙ e)
+
     state : (i : ℕ) → i < 0 + length (c .states) → i < length (headTree c .states)
     state i l = let n = length-map (c .states) (λ x. x .ident) in omega arith
 
@@ -153,9 +156,11 @@ ranged ws cs h clean = record {
   contracts = (let l = length-map cs headTree in let f : length cs ≤ 8 = at-most 8 cs fewer in omega arith);
   messages = λ i. small [] cs (h .stated) kept i .0;
   states = λ i. small [] cs (h .stated) kept i .1;
-  owners = λ i l. each-at (Owned (map headTree cs)) (numbered moveEntries 0 cs) i noMove (owned [] cs 0 refl) l }
+  owners = λ i l. each-at (Owned (map headTree cs)) (numbered moveEntries 0 cs) i noMove (owned [] cs 0 refl) l;
+}
   where
     kept : Clean [] (fileWords cs)
     kept = subst (λ l. Clean [] l) (h .words) clean
+
     fewer : (pre : List ContractTree) (c : ContractTree) (post : List ContractTree) → cs ≡ pre ++ c ∷ post → length pre < 8
     fewer pre c post e = few-contracts pre c post (subst Stated e (h .stated)) (subst (λ l. Clean [] (fileWords l)) e kept)

@@ -32,7 +32,7 @@ openedAt cs st n ms = record { before = cs; stated = st; ident = n; messages = m
 
 -- where the next name of a family stands
 at-head : (cs : List ContractTree) (st : Stated cs) (n : Ident) (ms : List Message) (ys : List Sign)
-  → over origin (fileWords cs ++ (headWords n ms ++ ys)) ≡ over (q.messages (progress (openedAt cs st n ms) [])) ys
+    → over origin (fileWords cs ++ (headWords n ms ++ ys)) ≡ over (q.messages (progress (openedAt cs st n ms) [])) ys
 at-head cs st n ms ys = over-file cs st _ ∙ over-head cs st n ms ys
 
 at-message : (h : Opened) (way : Mark) → over (q.messages (progress h [])) (wayWord way ∷ []) ≡ Some (q.message (progress h []) way)
@@ -78,7 +78,7 @@ full-level : (full seen : Bool) (n : Ident) → full ≡ true → checkLevel (co
 full-level full seen n e = ap (λ b. checkLevel (cond b (tooMany n) (cond seen (repeated n) fine))) e
 
 seen-level : (full seen : Bool) (n : Ident) → seen ≡ true
-  → (checkLevel (cond full (tooMany n) (cond seen (repeated n) fine)) ≡ 6) ⊎ (checkLevel (cond full (tooMany n) (cond seen (repeated n) fine)) ≡ 7)
+    → (checkLevel (cond full (tooMany n) (cond seen (repeated n) fine)) ≡ 6) ⊎ (checkLevel (cond full (tooMany n) (cond seen (repeated n) fine)) ≡ 7)
 seen-level true seen n e = inl refl
 seen-level false seen n e = inr (ap (λ b. checkLevel (cond b (repeated n) fine)) e)
 

@@ -31,7 +31,7 @@ Says (tooMany n) x ws = (x ≡ s.Name n) × Beyond ws x
 Says (repeated n) x ws = (x ≡ s.Name n) × Second ws x
 
 judge : (ws : List Sign) (n : Ident) (full seen : Bool) → (full ≡ true → Beyond ws (s.Name n)) → (seen ≡ true → Second ws (s.Name n))
-  → Says (cond full (tooMany n) (cond seen (repeated n) fine)) (s.Name n) ws
+    → Says (cond full (tooMany n) (cond seen (repeated n) fine)) (s.Name n) ws
 judge ws n true seen f g = (refl, f refl)
 judge ws n false true f g = (refl, g refl)
 judge ws n false false f g = tt
@@ -75,38 +75,68 @@ edges (heading cs st) =
     ((λ n. (record { to = opening cs st n; stands = refl; adds = simp append-assoc }, tt, told (spelled (heading cs st)) _ 8 (contracts cs st refl (heads-named cs) refl) n)), tt)
 edges (opening cs st n) =
     ((record { to = messages (record { before = cs; stated = st; ident = n; messages = [] }); stands = ap q.messages (sym (begin cs st n)); adds = simp append-assoc }, tt), tt)
-edges (messages h) =
-    ((record { to = message h Out; stands = refl; adds = simp (append-assoc, append-nil) }, tt),
-    ((record { to = message h In; stands = refl; adds = simp (append-assoc, append-nil) }, tt),
-    ((record { to = state h []; stands = refl; adds = simp (append-assoc, append-nil) }, tt), tt)))
-edges (message h way) =
-    ((λ n. (record { to = called h way n; stands = refl; adds = simp append-assoc }, tt,
-    told (spelled (message h way)) _ 16 (family.messages (h .before) (h .ident) (h .messages) way (h .stated) refl refl refl) n)), tt)
-edges (called h way n) =
-    ((record { to = closing h (record { mark = way; ident = n; payload = Block }); stands = refl; adds = simp append-assoc }, tt),
-    ((record { to = carrying h way n Exporting; stands = refl; adds = simp append-assoc }, tt),
-    ((record { to = carrying h way n Importing; stands = refl; adds = simp append-assoc }, tt),
-    ((record { to = messages (withMessage h (record { mark = way; ident = n; payload = Nothing })); stands = refl; adds = simp (append-assoc, append-nil, each-push) }, tt), tt))))
+edges (messages h) = (
+  (record { to = message h Out; stands = refl; adds = simp (append-assoc, append-nil) }, tt),
+  (
+    (record { to = message h In; stands = refl; adds = simp (append-assoc, append-nil) }, tt),
+    ((record { to = state h []; stands = refl; adds = simp (append-assoc, append-nil) }, tt), tt),
+  ),
+)
+edges (message h way) = (
+  (λ n. (
+    record { to = called h way n; stands = refl; adds = simp append-assoc },
+    tt,
+    told (spelled (message h way)) _ 16 (family.messages (h .before) (h .ident) (h .messages) way (h .stated) refl refl refl) n,
+  )),
+  tt,
+)
+edges (called h way n) = (
+  (record { to = closing h (record { mark = way; ident = n; payload = Block }); stands = refl; adds = simp append-assoc }, tt),
+  (
+    (record { to = carrying h way n Exporting; stands = refl; adds = simp append-assoc }, tt),
+    (
+      (record { to = carrying h way n Importing; stands = refl; adds = simp append-assoc }, tt),
+      ((record { to = messages (withMessage h (record { mark = way; ident = n; payload = Nothing })); stands = refl; adds = simp (append-assoc, append-nil, each-push) }, tt), tt),
+    ),
+  ),
+)
 edges (carrying h way n role) = ((λ c. (record { to = stating h way n role c; stands = refl; adds = simp append-assoc }, tt)), tt)
 edges (stating h way n role c) = ((λ x. (record { to = closing h (record { mark = way; ident = n; payload = End role c x }); stands = refl; adds = simp append-assoc }, tt)), tt)
 edges (closing h x) = ((record { to = messages (withMessage h x); stands = refl; adds = simp (append-assoc, append-nil, each-push) }, tt), tt)
-edges (state h ss) =
-    ((λ n. (record { to = entering h ss n; stands = ap q.entering (sym (add-state h ss n)); adds = simp append-assoc }, tt,
-    told (spelled (state h ss)) _ 16 (family.states (h .before) (h .ident) (h .messages) ss (h .stated) refl refl refl) n)), tt)
+edges (state h ss) = (
+  (λ n. (
+    record { to = entering h ss n; stands = ap q.entering (sym (add-state h ss n)); adds = simp append-assoc },
+    tt,
+    told (spelled (state h ss)) _ 16 (family.states (h .before) (h .ident) (h .messages) ss (h .stated) refl refl refl) n,
+  )),
+  tt,
+)
 edges (entering h ss n) = ((record { to = moves h ss (stateOf n []); stands = refl; adds = simp append-assoc }, tt), tt)
-edges (moves h ss x) =
-    ((λ n. (record { to = move h ss x n; stands = refl; adds = simp append-assoc }, tt)),
-    ((record { to = states h (ss ++ x ∷ []) (pushed ss x); stands = refl; adds = simp (append-assoc, each-push) }, tt), tt))
-edges (move h ss x n) =
-    ((record { to = marked h ss x n Out; stands = refl; adds = simp append-assoc }, tt),
-    ((record { to = marked h ss x n In; stands = refl; adds = simp append-assoc }, tt), tt))
+edges (moves h ss x) = (
+  (λ n. (record { to = move h ss x n; stands = refl; adds = simp append-assoc }, tt)),
+  ((record { to = states h (ss ++ x ∷ []) (pushed ss x); stands = refl; adds = simp (append-assoc, each-push) }, tt), tt),
+)
+edges (move h ss x n) = (
+  (record { to = marked h ss x n Out; stands = refl; adds = simp append-assoc }, tt),
+  ((record { to = marked h ss x n In; stands = refl; adds = simp append-assoc }, tt), tt),
+)
 edges (marked h ss x n way) = ((record { to = aiming h ss x n way; stands = refl; adds = simp append-assoc }, tt), tt)
 edges (aiming h ss x n way) = ((λ t. (record { to = aimed h ss x (record { message = n; mark = way; target = t }); stands = refl; adds = simp append-assoc }, tt)), tt)
 edges (aimed h ss x v) = ((record { to = moves h ss (withMove x v); stands = ap q.moves (sym (add-move h ss x v)); adds = simp (append-assoc, append-nil, each-push) }, tt), tt)
-edges (states h ss e) =
-    ((record { to = state h ss; stands = refl; adds = simp append-assoc }, tt),
-    ((record { to = more (h .before ++ contractOf h ss ∷ []) (stated-push (h .before) (contractOf h ss) (h .stated) e) (pushed (h .before) (contractOf h ss));
-      stands = ap q.more (sym (end-contract h ss)); adds = simp (append-assoc, each-push) }, tt), tt))
+edges (states h ss e) = (
+  (record { to = state h ss; stands = refl; adds = simp append-assoc }, tt),
+  (
+    (
+      record {
+        to = more (h .before ++ contractOf h ss ∷ []) (stated-push (h .before) (contractOf h ss) (h .stated) e) (pushed (h .before) (contractOf h ss));
+        stands = ap q.more (sym (end-contract h ss));
+        adds = simp (append-assoc, each-push);
+      },
+      tt,
+    ),
+    tt,
+  ),
+)
 edges (more cs st e) = ((record { to = heading cs st; stands = refl; adds = refl }, tt), ((refl, cs, record { words = refl; some = e; stated = st }, refl), tt))
 
 pub steps : (N : Trail) (x : Sign) → Of (among (ask (at N)) x) (Steps N x)

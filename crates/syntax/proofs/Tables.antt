@@ -131,7 +131,7 @@ none-some q e = let z : _≡_ {A = ℕ} 0 1 = cc in omega arith
 
 module _ {Q R : Type 0} (ask : Q → List (Alt Q R)) where
   along-turn : (xs ys : List Sign) (q′ : Q) → ((q : Q) → walk ask q xs ≡ Some q′ → walk ask q (xs ++ ys) ≡ walk ask q′ ys)
-    → (o : Option (Turn Q R)) → onward o (λ q. walk ask q xs) ≡ Some q′ → onward o (λ q. walk ask q (xs ++ ys)) ≡ walk ask q′ ys
+      → (o : Option (Turn Q R)) → onward o (λ q. walk ask q xs) ≡ Some q′ → onward o (λ q. walk ask q (xs ++ ys)) ≡ walk ask q′ ys
   along-turn xs ys q′ ih None e = absurd (none-some q′ e)
   along-turn xs ys q′ ih (Some (go q)) e = ih q e
   along-turn xs ys q′ ih (Some (new q c)) e = ih q e

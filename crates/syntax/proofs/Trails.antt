@@ -84,7 +84,8 @@ progress h ss = record {
   moves = numbered moveEntries 0 (h .before) ++ numbered (entriesOf (length (h .before))) 0 ss;
   ident = h .ident;
   messages = h .messages;
-  states = map (λ x. x .ident) ss }
+  states = map (λ x. x .ident) ss;
+}
 
 abbrev pub stateOf : Ident → List Move → StateTree
 stateOf n vs = record { ident = n; moves = vs }
@@ -135,7 +136,7 @@ module _ (h : Opened) where
   entries ss x = numbered-push (entriesOf (length (h .before))) 0 ss x ∙ ap (λ i. numbered (entriesOf (length (h .before))) 0 ss ++ entriesOf (length (h .before)) i x) (zero-add (length ss))
 
   same-progress : (vs us : List MoveEntry) (ns os : List Ident) → vs ≡ us → ns ≡ os
-    → _≡_ {A = Progress} (record { heads = map headTree (h .before); moves = vs; ident = h .ident; messages = h .messages; states = ns })
+      → _≡_ {A = Progress} (record { heads = map headTree (h .before); moves = vs; ident = h .ident; messages = h .messages; states = ns })
       (record { heads = map headTree (h .before); moves = us; ident = h .ident; messages = h .messages; states = os })
   same-progress vs us ns os p r = cc
 
@@ -146,7 +147,7 @@ module _ (h : Opened) where
       (sym (map-push (λ x. x .ident) ss (stateOf n [])))
 
   entry : (ss : List StateTree) (x : StateTree) (v : Move)
-    → _≡_ {A = MoveEntry} (record { contract = length (map headTree (h .before)); state = length (map (λ y. y .ident) (ss ++ x ∷ [])) - 1; step = v })
+      → _≡_ {A = MoveEntry} (record { contract = length (map headTree (h .before)); state = length (map (λ y. y .ident) (ss ++ x ∷ [])) - 1; step = v })
       (record { contract = length (h .before); state = length ss; step = v })
   entry ss x v =
       let a : length (map headTree (h .before)) ≡ length (h .before) = length-map (h .before) headTree in

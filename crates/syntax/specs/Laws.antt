@@ -1,6 +1,7 @@
 -- What a contract file may say, and what is at fault in one that may not stand.
 --   joins ws r             the words ws, and then r
 --   signs ws               what the words ws say
+--   headWords n ms         a contract with the name n and the messages ms, up to its states
 --   Family ws ns limit     the word after ws is the next name of a family that has the names ns and room for limit
 --   Named n ns             one of the names ns is the name of n
 --   Unallowed ws x         4: no file begins with ws and x
@@ -8,6 +9,7 @@
 --   Second ws x            7: x is a name that stands in its family before
 --   Passed ws x            none of these holds of x after ws
 --   Clean seen xs          none of these holds of any of the words xs, which follow those seen
+--   spanOf w               where a word stands
 --   Lowest ws w f          f is the fault with the lowest number that holds of the word w after ws
 --   Wrong ws r f           f is the fault at what follows the words ws
 --   Right t o              o is the file that the words t spell, or the fault at the first spot of t from the left
@@ -44,18 +46,17 @@ joins (w ∷ ws) r = word w (joins ws r)
 abbrev pub signs : List Word → List Sign
 signs = map (λ w. w .sign)
 
--- a contract up to its messages
 abbrev pub headWords : Ident → List Message → List Sign
 headWords n ms = s.Key k.Contract ∷ s.Name n ∷ s.Mark m.OpenBrace ∷ each messageWords ms
 
 -- the contracts of the file, the messages of a contract, the states of a contract
 pub data Family (ws : List Sign) (ns : List Ident) (limit : ℕ) : Type 0 where
   contracts : (cs : List ContractTree) → Stated cs
-    → ws ≡ fileWords cs ++ s.Key k.Contract ∷ [] → ns ≡ map (λ c. c .ident) cs → limit ≡ 8 → Family ws ns limit
+      → ws ≡ fileWords cs ++ s.Key k.Contract ∷ [] → ns ≡ map (λ c. c .ident) cs → limit ≡ 8 → Family ws ns limit
   messages : (cs : List ContractTree) (n : Ident) (ms : List Message) (way : Mark) → Stated cs
-    → ws ≡ fileWords cs ++ (headWords n ms ++ wayWord way ∷ []) → ns ≡ map (λ x. x .ident) ms → limit ≡ 16 → Family ws ns limit
+      → ws ≡ fileWords cs ++ (headWords n ms ++ wayWord way ∷ []) → ns ≡ map (λ x. x .ident) ms → limit ≡ 16 → Family ws ns limit
   states : (cs : List ContractTree) (n : Ident) (ms : List Message) (ss : List StateTree) → Stated cs
-    → ws ≡ fileWords cs ++ (headWords n ms ++ (each stateWords ss ++ s.Key k.State ∷ [])) → ns ≡ map (λ x. x .ident) ss → limit ≡ 16 → Family ws ns limit
+      → ws ≡ fileWords cs ++ (headWords n ms ++ (each stateWords ss ++ s.Key k.State ∷ [])) → ns ≡ map (λ x. x .ident) ss → limit ≡ 16 → Family ws ns limit
 
 abbrev pub Named : Ident → List Ident → Type 0
 Named n ns = (i : ℕ) × (i < length ns) × (getD ns i noIdent .name ≡ n .name)
@@ -78,7 +79,6 @@ abbrev pub Clean : List Sign → List Sign → Type 0
 Clean seen [] = Unit {0}
 Clean seen (x ∷ xs) = Passed seen x × Clean (seen ++ x ∷ []) xs
 
--- where a word stands
 abbrev pub spanOf : Word → Span
 spanOf w = record { source = Contracts; place = w .place; len = sizeOf (w .sign) }
 

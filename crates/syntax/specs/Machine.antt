@@ -48,7 +48,8 @@ addMove p v = record {
   moves = p .moves ++ record { contract = length (p .heads); state = length (p .states) - 1; step = v } ∷ [];
   ident = p .ident;
   messages = p .messages;
-  states = p .states }
+  states = p .states;
+}
 
 -- a contract ends
 abbrev pub ended : Progress → Parts

@@ -22,7 +22,8 @@ progress p = record {
   moves = rowItems (p .moves);
   ident = p .ident;
   messages = rowItems (p .messages);
-  states = rowItems (p .states) }
+  states = rowItems (p .states);
+}
 
 abbrev pub partsIn : Parser → Parts
 partsIn p = record { heads = map declares (rowItems (p .heads)); moves = rowItems (p .moves) }

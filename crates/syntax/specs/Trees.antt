@@ -74,5 +74,5 @@ pub record Ranged (p : Parts) : Type 0 where
   pub messages : (k : ℕ) → length (getD (p .heads) k noHead .messages) ≤ 16
   pub states : (k : ℕ) → length (getD (p .heads) k noHead .states) ≤ 16
   pub owners : (i : ℕ) → i < length (p .moves)
-    → (getD (p .moves) i noMove .contract < length (p .heads))
-    × (getD (p .moves) i noMove .state < length (getD (p .heads) (getD (p .moves) i noMove .contract) noHead .states))
+      → (getD (p .moves) i noMove .contract < length (p .heads))
+      × (getD (p .moves) i noMove .state < length (getD (p .heads) (getD (p .moves) i noMove .contract) noHead .states))

@@ -7,7 +7,7 @@ use crate::tree::Head;
 use crate::tree::Message;
 use words::name::Ident;
 
-pub fn has_state(all: &[Ident], ident: Ident) -> bool
+pub(crate) fn has_state(all: &[Ident], ident: Ident) -> bool
     ensures { λ r. ⌜ r ≡ known ident (now (all .entry)) ⌝ }
 {
     for x in all {
@@ -18,7 +18,7 @@ pub fn has_state(all: &[Ident], ident: Ident) -> bool
     false
 }
 
-pub fn has_message(all: &[Message], ident: Ident) -> bool
+pub(crate) fn has_message(all: &[Message], ident: Ident) -> bool
     ensures { λ r. ⌜ r ≡ known ident (map (λ x. x .ident) (now (all .entry))) ⌝ }
 {
     for x in all {
@@ -29,7 +29,7 @@ pub fn has_message(all: &[Message], ident: Ident) -> bool
     false
 }
 
-pub fn has_contract(all: &[Head], ident: Ident) -> bool
+pub(crate) fn has_contract(all: &[Head], ident: Ident) -> bool
     ensures { λ r. ⌜ r ≡ known ident (map (λ x. x .ident) (map declares (now (all .entry)))) ⌝ }
 {
     for x in all {

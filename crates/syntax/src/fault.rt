@@ -1,5 +1,6 @@
 // The faults of a text that its grammar and its limits find.
 ghost use mathlib.Core.Path.{_≡_};
+ghost use Rattle.syntax.specs.declared.fault.GrammarFault.the-variants as faults;
 ghost use Rattle.syntax.specs.Faults.{grammarReport};
 use words::fault::Report;
 use words::fault::Span;
@@ -18,6 +19,14 @@ pub enum GrammarFault {
     TooMany(Span),
     /// 7: the name stands a second time in its family.
     Repeated(Span),
+}
+
+pub impl From<WordFault> for GrammarFault as GrammarFaultFromWordFault {
+    ghost converts = { λ e r. r ≡ faults.Word e };
+
+    fn from(e: WordFault) -> GrammarFault {
+        GrammarFault::Word(e)
+    }
 }
 
 impl GrammarFault {

@@ -11,9 +11,9 @@ use words::fault::WordFault;
 use words::reader::Reader;
 use words::word::Word;
 
-/// A reader of the text that `source` names.
+// A reader of the text that `source` names.
 #[derive(Drop)]
-pub struct Feed<'a> {
+pub(crate) struct Feed<'a> {
     source: Source,
     reader: Reader<'a>,
     ghost agree: { sourceOf reader ≡ source },

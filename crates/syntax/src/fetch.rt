@@ -8,14 +8,13 @@ ghost use Rattle.words.specs.Signs.{said, nameOf, markSize};
 ghost use Rattle.words.specs.Stream.{bytesIn};
 ghost use Rattle.syntax.specs.Table.{markCode, refused, inName};
 ghost use Rattle.syntax.specs.Picks.{inMark, inContract, inContractOrEnd, inMessage, inCargo, inWay, inMove, inState, left, fetched, Moved, admitted};
-ghost use Rattle.syntax.specs.declared.fault.GrammarFault.the-variants as faults;
 use crate::cargo::Cargo;
 use crate::fault::GrammarFault;
+use crate::fault::GrammarFaultFromWordFault;
 use crate::feed::Feed;
 use crate::tree::Mark;
 use crate::tree::Role;
 use words::fault::Span;
-use words::fault::WordFault;
 use words::name::Ident;
 use words::name::Name;
 use words::word::Keyword;
@@ -23,20 +22,15 @@ use words::word::Mark as MarkWord;
 use words::word::MarkPartialEq;
 use words::word::Word;
 
-pub impl From<WordFault> for GrammarFault as GrammarFaultFromWordFault {
-    ghost converts = { λ e r. r ≡ faults.Word e };
-
-    fn from(e: WordFault) -> GrammarFault {
-        GrammarFault::Word(e)
-    }
-}
-
 // The name with these bytes at a place.
 fn ident(place: usize, bytes: &[u8]) -> Ident
     requires { ⌜ length (now bytes) ≤ 16 ⌝ }
     ensures { λ r. ⌜ r ≡ record { place = place; name = nameOf (now (bytes .entry)) } ⌝ }
 {
-    Ident { place, name: Name::copied(bytes) }
+    Ident {
+        place,
+        name: Name::copied(bytes),
+    }
 }
 
 // Whether two marks are the same.
@@ -58,7 +52,11 @@ impl<'a> Feed<'a> {
             Word::Number { place, .. } => place,
             Word::End { place } => place,
         };
-        GrammarFault::Unexpected(Span { source: self.source(), place, len: word.len() })
+        GrammarFault::Unexpected(Span {
+            source: self.source(),
+            place,
+            len: word.len(),
+        })
     }
 
     pub(crate) fn name(&mut self) -> Result<Ident, GrammarFault>
@@ -96,9 +94,18 @@ impl<'a> Feed<'a> {
     {
         let word = self.next()?;
         match word {
-            Word::Keyword { keyword: Keyword::Out, .. } => Ok(Some(Mark::Out)),
-            Word::Keyword { keyword: Keyword::In, .. } => Ok(Some(Mark::In)),
-            Word::Keyword { keyword: Keyword::State, .. } => Ok(None),
+            Word::Keyword {
+                keyword: Keyword::Out,
+                ..
+            } => Ok(Some(Mark::Out)),
+            Word::Keyword {
+                keyword: Keyword::In,
+                ..
+            } => Ok(Some(Mark::In)),
+            Word::Keyword {
+                keyword: Keyword::State,
+                ..
+            } => Ok(None),
             _ => Err(self.unexpected(word)),
         }
     }
@@ -112,7 +119,10 @@ impl<'a> Feed<'a> {
     {
         let word = self.next()?;
         match word {
-            Word::Keyword { keyword: Keyword::Contract, .. } => Ok(()),
+            Word::Keyword {
+                keyword: Keyword::Contract,
+                ..
+            } => Ok(()),
             _ => Err(self.unexpected(word)),
         }
     }
@@ -125,7 +135,10 @@ impl<'a> Feed<'a> {
     {
         let word = self.next()?;
         match word {
-            Word::Keyword { keyword: Keyword::Contract, .. } => Ok(true),
+            Word::Keyword {
+                keyword: Keyword::Contract,
+                ..
+            } => Ok(true),
             Word::End { .. } => Ok(false),
             _ => Err(self.unexpected(word)),
         }
@@ -140,10 +153,22 @@ impl<'a> Feed<'a> {
     {
         let word = self.next()?;
         match word {
-            Word::Keyword { keyword: Keyword::Block, .. } => Ok(Cargo::Block),
-            Word::Keyword { keyword: Keyword::Exp, .. } => Ok(Cargo::End(Role::Exporting)),
-            Word::Keyword { keyword: Keyword::Imp, .. } => Ok(Cargo::End(Role::Importing)),
-            Word::Mark { mark: MarkWord::Semicolon, .. } => Ok(Cargo::Nothing),
+            Word::Keyword {
+                keyword: Keyword::Block,
+                ..
+            } => Ok(Cargo::Block),
+            Word::Keyword {
+                keyword: Keyword::Exp,
+                ..
+            } => Ok(Cargo::End(Role::Exporting)),
+            Word::Keyword {
+                keyword: Keyword::Imp,
+                ..
+            } => Ok(Cargo::End(Role::Importing)),
+            Word::Mark {
+                mark: MarkWord::Semicolon,
+                ..
+            } => Ok(Cargo::Nothing),
             _ => Err(self.unexpected(word)),
         }
     }
@@ -157,8 +182,14 @@ impl<'a> Feed<'a> {
     {
         let word = self.next()?;
         match word {
-            Word::Keyword { keyword: Keyword::State, .. } => Ok(true),
-            Word::Mark { mark: MarkWord::CloseBrace, .. } => Ok(false),
+            Word::Keyword {
+                keyword: Keyword::State,
+                ..
+            } => Ok(true),
+            Word::Mark {
+                mark: MarkWord::CloseBrace,
+                ..
+            } => Ok(false),
             _ => Err(self.unexpected(word)),
         }
     }
@@ -173,7 +204,10 @@ impl<'a> Feed<'a> {
         let word = self.next()?;
         match word {
             Word::Name { place, bytes } => Ok(Some(ident(place, bytes))),
-            Word::Mark { mark: MarkWord::CloseBrace, .. } => Ok(None),
+            Word::Mark {
+                mark: MarkWord::CloseBrace,
+                ..
+            } => Ok(None),
             _ => Err(self.unexpected(word)),
         }
     }
@@ -187,8 +221,14 @@ impl<'a> Feed<'a> {
     {
         let word = self.next()?;
         match word {
-            Word::Mark { mark: MarkWord::Bang, .. } => Ok(Mark::Out),
-            Word::Mark { mark: MarkWord::Question, .. } => Ok(Mark::In),
+            Word::Mark {
+                mark: MarkWord::Bang,
+                ..
+            } => Ok(Mark::Out),
+            Word::Mark {
+                mark: MarkWord::Question,
+                ..
+            } => Ok(Mark::In),
             _ => Err(self.unexpected(word)),
         }
     }
@@ -197,7 +237,11 @@ impl<'a> Feed<'a> {
     pub(crate) fn admit(&self, ident: Ident, full: bool, seen: bool) -> Result<(), GrammarFault>
         ensures { λ r. ⌜ r ≡ admitted (now (self .entry) .source) ident full seen ⌝ }
     {
-        let span = Span { source: self.source(), place: ident.place, len: ident.name.len };
+        let span = Span {
+            source: self.source(),
+            place: ident.place,
+            len: ident.name.len,
+        };
         if full {
             return Err(GrammarFault::TooMany(span));
         }

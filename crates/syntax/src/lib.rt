@@ -1,5 +1,6 @@
 // Contract files from words to a tree, whose names keep their places.
 ghost use mathlib.Core.Path.{_≡_};
+ghost use mathlib.Core.List.{[]};
 ghost use Prim.Native.Nat.{_<_, _≤_};
 ghost use lib.ListN.{length};
 ghost use Rattle.std.specs.Vec.{made};
@@ -12,7 +13,7 @@ ghost use Rattle.syntax.specs.Trees.{partsOf, parts, Ranged};
 ghost use Rattle.syntax.specs.Laws.{Right, Exact, outcome};
 ghost use Rattle.syntax.specs.Table.{run};
 ghost use Rattle.syntax.specs.Machine.{ask, start};
-ghost use mathlib.Core.List.{[]};
+
 mod cargo;
 mod family;
 pub mod fault;
@@ -21,9 +22,10 @@ mod fetch;
 mod parser;
 pub mod row;
 pub mod tree;
+
 use fault::GrammarFault;
+use fault::GrammarFaultFromWordFault;
 use feed::Feed;
-use fetch::GrammarFaultFromWordFault;
 use parser::Parser;
 use tree::Tree;
 use words::fault::Source;

@@ -12,10 +12,10 @@ ghost use Rattle.syntax.specs.Picks.{left};
 ghost use Rattle.syntax.specs.Trees.{partsOf, parts};
 ghost use Rattle.syntax.specs.Parsing.{progress, partsIn, reads, unread, weight as weigh};
 use crate::cargo::Cargo;
-use crate::fault::GrammarFault;
 use crate::family::has_contract;
 use crate::family::has_message;
 use crate::family::has_state;
+use crate::fault::GrammarFault;
 use crate::feed::Feed;
 use crate::row::Row;
 use crate::tree::Head;
@@ -30,9 +30,9 @@ use words::name::Ident;
 use words::name::Name;
 use words::word::Mark as MarkWord;
 
-/// What is left to read, the contracts and moves that were read, and the contract that is being read.
+// What is left to read, the contracts and moves that were read, and the contract that is being read.
 #[derive(Drop)]
-pub struct Parser<'a> {
+pub(crate) struct Parser<'a> {
     feed: Feed<'a>,
     heads: Row<Head, 8>,
     moves: Row<MoveEntry, 682>,
@@ -41,8 +41,20 @@ pub struct Parser<'a> {
     states: Row<Ident, 16>,
 }
 
-const NO_IDENT: Ident = Ident { place: 0, name: Name { len: 0, bytes: [0; 16] } };
-const NO_MESSAGE: Message = Message { mark: Mark::Out, ident: NO_IDENT, payload: Payload::Nothing };
+// What stands in unused places.
+const NO_IDENT: Ident = Ident {
+    place: 0,
+    name: Name {
+        len: 0,
+        bytes: [0; 16],
+    },
+};
+
+const NO_MESSAGE: Message = Message {
+    mark: Mark::Out,
+    ident: NO_IDENT,
+    payload: Payload::Nothing,
+};
 
 impl<'a> Parser<'a> {
     // Nothing was read.
@@ -50,12 +62,26 @@ impl<'a> Parser<'a> {
         ensures value { λ r. ⌜ partsIn r ≡ partsOf [] ⌝ }
         ensures feed { λ r. ⌜ (r .feed .source ≡ feed .entry .source) × (left (r .feed) ≡ left (feed .entry)) ⌝ }
     {
-        let head = Head { ident: NO_IDENT, message_count: 0, messages: [NO_MESSAGE; 16], state_count: 0, states: [NO_IDENT; 16] };
-        let step = Move { message: NO_IDENT, mark: Mark::Out, target: NO_IDENT };
+        let head = Head {
+            ident: NO_IDENT,
+            message_count: 0,
+            messages: [NO_MESSAGE; 16],
+            state_count: 0,
+            states: [NO_IDENT; 16],
+        };
+        let step = Move {
+            message: NO_IDENT,
+            mark: Mark::Out,
+            target: NO_IDENT,
+        };
         Parser {
             feed,
             heads: Row::new(head),
-            moves: Row::new(MoveEntry { contract: 0, state: 0, step }),
+            moves: Row::new(MoveEntry {
+                contract: 0,
+                state: 0,
+                step,
+            }),
             ident: NO_IDENT,
             messages: Row::new(NO_MESSAGE),
             states: Row::new(NO_IDENT),
@@ -81,7 +107,11 @@ impl<'a> Parser<'a> {
         let mark = self.feed.way()?;
         self.feed.mark(MarkWord::Arrow)?;
         let target = self.feed.name()?;
-        Ok(Move { message, mark, target })
+        Ok(Move {
+            message,
+            mark,
+            target,
+        })
     }
 
     // One move more of the last state.
@@ -94,7 +124,11 @@ impl<'a> Parser<'a> {
     {
         let contract = self.heads.as_slice().len();
         let state = self.states.as_slice().len().saturating_sub(1);
-        let _ = self.moves.push(MoveEntry { contract, state, step });
+        let _ = self.moves.push(MoveEntry {
+            contract,
+            state,
+            step,
+        });
     }
 
     // A move, whose message was read.
@@ -134,7 +168,8 @@ impl<'a> Parser<'a> {
     {
         let ident = self.feed.name()?;
         let states = self.states.as_slice();
-        self.feed.admit(ident, states.len() >= 16, has_state(states, ident))?;
+        self.feed
+            .admit(ident, states.len() >= 16, has_state(states, ident))?;
         let _ = self.states.push(ident);
         Ok(())
     }
@@ -202,7 +237,15 @@ impl<'a> Parser<'a> {
     {
         let contract = self.feed.name()?;
         let state = self.feed.name()?;
-        self.close_message(Message { mark, ident, payload: Payload::End { role, contract, state } })
+        self.close_message(Message {
+            mark,
+            ident,
+            payload: Payload::End {
+                role,
+                contract,
+                state,
+            },
+        })
     }
 
     // What a message carries, and its `;`.
@@ -215,10 +258,18 @@ impl<'a> Parser<'a> {
     {
         match self.feed.cargo()? {
             Cargo::Nothing => {
-                self.add_message(Message { mark, ident, payload: Payload::Nothing });
+                self.add_message(Message {
+                    mark,
+                    ident,
+                    payload: Payload::Nothing,
+                });
                 Ok(())
             }
-            Cargo::Block => self.close_message(Message { mark, ident, payload: Payload::Block }),
+            Cargo::Block => self.close_message(Message {
+                mark,
+                ident,
+                payload: Payload::Block,
+            }),
             Cargo::End(role) => self.end_of(mark, ident, role),
         }
     }
@@ -233,7 +284,8 @@ impl<'a> Parser<'a> {
     {
         let ident = self.feed.name()?;
         let messages = self.messages.as_slice();
-        self.feed.admit(ident, messages.len() >= 16, has_message(messages, ident))?;
+        self.feed
+            .admit(ident, messages.len() >= 16, has_message(messages, ident))?;
         Ok(ident)
     }
 
@@ -270,7 +322,8 @@ impl<'a> Parser<'a> {
     {
         let ident = self.feed.name()?;
         let heads = self.heads.as_slice();
-        self.feed.admit(ident, heads.len() >= 8, has_contract(heads, ident))?;
+        self.feed
+            .admit(ident, heads.len() >= 8, has_contract(heads, ident))?;
         Ok(ident)
     }
 

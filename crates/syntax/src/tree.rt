@@ -23,7 +23,11 @@ pub enum Role {
 pub enum Payload {
     Nothing,
     Block,
-    End { role: Role, contract: Ident, state: Ident },
+    End {
+        role: Role,
+        contract: Ident,
+        state: Ident,
+    },
 }
 
 /// A message as it is declared.

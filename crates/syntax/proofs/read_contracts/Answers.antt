@@ -20,4 +20,5 @@ returns c =
       large = λ h. let l = a .0 in absurd (omega arith);
       right = λ _. right-of text r e;
       exact = λ _. exact-of text r e;
-      ranged = ranged-of text r (right-of text r e) }
+      ranged = ranged-of text r (right-of text r e);
+    }

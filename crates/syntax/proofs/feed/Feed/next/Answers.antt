@@ -18,4 +18,5 @@ returns c =
       short = c .next .ensures .short;
       left = fetch-left (c .next .result) from a b h (c .next .ensures .tail);
       spent = fetch-spent (c .next .result) from a b h (c .next .ensures .tail);
-      named = fetch-sized (c .next .result) from a b h (c .next .ensures .tail) }
+      named = fetch-sized (c .next .result) from a b h (c .next .ensures .tail);
+    }

@@ -14,8 +14,9 @@ returns c =
     let e = c .push .ensures .room (c .pre) .1 in
     record {
       value = added (progress p) (rowItems (c .push .last .self)) _ _ (c .args .step) e
-        (ap length (c .as-slice-contract .ensures) ∙ sym (length-map (rowItems (p .heads)) declares))
-        (c .saturating-sub-state .ensures ∙ ap (λ l. length l - 1) (c .as-slice .ensures));
+          (ap length (c .as-slice-contract .ensures) ∙ sym (length-map (rowItems (p .heads)) declares))
+          (c .saturating-sub-state .ensures ∙ ap (λ l. length l - 1) (c .as-slice .ensures));
       weight = heavier (rowItems (p .moves)) (rowItems (c .push .last .self)) _ (unread p) e;
       feed = search needs;
-      heads = search needs }
+      heads = search needs;
+    }

@@ -9,4 +9,5 @@ returns c =
     record {
       value = joined (rowItems (p .heads)) (rowItems (c .push .last .self)) _ _ (rowItems (p .moves)) (c .push .ensures .room (c .pre) .1) (search needs);
       weight = search needs;
-      feed = search needs }
+      feed = search needs;
+    }

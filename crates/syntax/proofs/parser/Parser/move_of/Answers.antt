@@ -12,8 +12,9 @@ returns c =
     let m : reading (q.aimed p v) (c .step .last .self .feed) ≡ reading (q.moves (q.addMove p v)) (c .mark .last .self) = search needs in
     record {
       goes = c .in-Continue-step .ensures tt .goes ∙ m
-        ∙ ap (λ x. reading (q.moves x) (c .mark .last .self)) (sym (c .add-move .ensures .value))
-        ∙ ap (λ f. reading (q.moves (progress (c .add-move .last .self))) f) (sym (c .add-move .ensures .feed));
+          ∙ ap (λ x. reading (q.moves x) (c .mark .last .self)) (sym (c .add-move .ensures .value))
+          ∙ ap (λ f. reading (q.moves (progress (c .add-move .last .self))) f) (sym (c .add-move .ensures .feed));
       unread = search needs;
       weight = search needs;
-      heads = search needs }
+      heads = search needs;
+    }
