@@ -25,7 +25,7 @@ pub struct Contract {
 
 impl Contract {
     /// The contract with this table, which keeps the rules.
-    pub fn new(table: Table) -> Contract
+    pub(crate) fn new(table: Table) -> Contract
         requires { ⌜ Ruled table ⌝ }
         ensures { λ r. ⌜ r .table ≡ table ⌝ }
     {
@@ -37,14 +37,14 @@ impl Contract {
     }
 
     /// The contract's table.
-    pub fn table(&self) -> &Table
+    pub(crate) fn table(&self) -> &Table
         ensures { λ r. ⌜ now r ≡ now (self .entry) .table ⌝ }
     {
         &self.table
     }
 
     /// The number of moves on the longest one-way path with the mark `d`.
-    pub fn bound(&self, d: Mark) -> u8
+    pub(crate) fn bound(&self, d: Mark) -> u8
         ensures { λ r. ⌜ Longest (OneWay (now (self .entry) .table) d) r ⌝ }
     {
         match d {

@@ -10,7 +10,7 @@ use crate::declaration::Written;
 use syntax::tree::MarkPartialEq;
 
 /// The first move with another mark than its message.
-pub fn first_wrong_mark(declarations: &[Declaration], moves: &[Written]) -> Option<usize>
+pub(crate) fn first_wrong_mark(declarations: &[Declaration], moves: &[Written]) -> Option<usize>
     requires { ⌜ Resolved (now declarations) (now moves) ⌝ }
     ensures { λ r. ⌜ BySome r (Never (WrongMark (now (declarations .entry)) (now (moves .entry)))) (First (WrongMark (now (declarations .entry)) (now (moves .entry)))) ⌝ }
 {
@@ -40,7 +40,7 @@ fn is_second(moves: &[Written], i: usize) -> bool
 }
 
 /// The first move for the same state and message as an earlier one.
-pub fn first_second_move(moves: &[Written]) -> Option<usize>
+pub(crate) fn first_second_move(moves: &[Written]) -> Option<usize>
     ensures { λ r. ⌜ BySome r (Never (SecondMove (now (moves .entry)))) (First (SecondMove (now (moves .entry)))) ⌝ }
 {
     for i in 0..moves.len() {
@@ -67,7 +67,7 @@ fn mixes_marks(moves: &[Written], i: usize) -> bool
 }
 
 /// The first move with another mark than its state's first move.
-pub fn first_mixed_marks(moves: &[Written]) -> Option<usize>
+pub(crate) fn first_mixed_marks(moves: &[Written]) -> Option<usize>
     ensures { λ r. ⌜ BySome r (Never (MixedMarks (now (moves .entry)))) (First (MixedMarks (now (moves .entry)))) ⌝ }
 {
     for i in 0..moves.len() {

@@ -53,7 +53,7 @@ fn ranks(t: &Table, d: Mark) -> [u8; 16]
 }
 
 /// The number of moves on the longest one-way path.
-pub fn longest(t: &Table, d: Mark) -> u8
+pub(crate) fn longest(t: &Table, d: Mark) -> u8
     requires acyclic { ⌜ ((s : ℕ) → OnCycle (OneWay (now t) d) s → ⊥) ⌝ }
     ensures exact { λ r. ⌜ Longest (OneWay (now (t .entry)) d) r ⌝ }
     ensures small { λ r. ⌜ r ≤ 15 ⌝ }

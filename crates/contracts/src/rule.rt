@@ -21,7 +21,7 @@ pub trait Rule {
 }
 
 /// The first contract that breaks the rule, with its first state or message that does.
-pub fn earliest<R: Rule>(rule: &R, tables: &[Table]) -> Option<(usize, usize)>
+pub(crate) fn earliest<R: Rule>(rule: &R, tables: &[Table]) -> Option<(usize, usize)>
     ensures { λ r. ⌜ BySome r
         ((k : ℕ) → k < length (now (tables .entry)) → keeps (now (tables .entry)) k)
         (λ v. (v .0 < length (now (tables .entry))) × First (breaks (now (tables .entry)) (v .0)) (v .1)

@@ -23,7 +23,7 @@ pub struct Table {
 
 impl Table {
     /// Where the state `s` goes by the message `m`.
-    pub fn target(&self, s: usize, m: usize) -> Option<u8>
+    pub(crate) fn target(&self, s: usize, m: usize) -> Option<u8>
         requires state { ⌜ s < 16 ⌝ }
         requires message { ⌜ m < 16 ⌝ }
         ensures { λ r. ⌜ r ≡ getD (getD (now (self .entry) .moves) s []) m None ⌝ }
@@ -32,7 +32,7 @@ impl Table {
     }
 
     /// The message `m`.
-    pub fn message(&self, m: usize) -> Message
+    pub(crate) fn message(&self, m: usize) -> Message
         requires { ⌜ m < 16 ⌝ }
         ensures { λ r. ⌜ r ≡ getD (now (self .entry) .declaration .messages) m quiet ⌝ }
     {
@@ -40,7 +40,7 @@ impl Table {
     }
 
     /// The name of the state `s`.
-    pub fn state(&self, s: usize) -> Name
+    pub(crate) fn state(&self, s: usize) -> Name
         requires { ⌜ s < 16 ⌝ }
         ensures { λ r. ⌜ r ≡ getD (now (self .entry) .declaration .states) s noName ⌝ }
     {

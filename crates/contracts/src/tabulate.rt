@@ -44,7 +44,7 @@ fn tabulate(declarations: &[Declaration], moves: &[Written], c: usize) -> Table
 }
 
 /// The tables of all contracts, first to last; the places behind them hold the first table again.
-pub fn tabulate_all(declarations: &[Declaration], moves: &[Written]) -> [Table; 8]
+pub(crate) fn tabulate_all(declarations: &[Declaration], moves: &[Written]) -> [Table; 8]
     requires resolved { ⌜ Resolved (now declarations) (now moves) ⌝ }
     requires once { ⌜ Never (SecondMove (now moves)) ⌝ }
     ensures { λ r. ⌜ Tabled (now (declarations .entry)) (now (moves .entry)) (take (length (now (declarations .entry))) r) ⌝ }

@@ -13,7 +13,7 @@ use syntax::tree::Mark;
 use syntax::tree::Role;
 
 /// The mark of the messages that an end sends: the exporting end those that are `out`, the importing end those that are `in`.
-pub fn sent_mark(role: Role) -> Mark
+pub(crate) fn sent_mark(role: Role) -> Mark
     ensures { λ r. ⌜ r ≡ sends role ⌝ }
 {
     match role {

@@ -58,7 +58,7 @@ fn frontier(t: &Table, w: Option<Mark>, from: usize, seen: &[bool; 16]) -> Optio
 }
 
 /// Which states can be reached from `from` by at least one move.
-pub fn after(t: &Table, w: Option<Mark>, from: usize) -> [bool; 16]
+pub(crate) fn after(t: &Table, w: Option<Mark>, from: usize) -> [bool; 16]
     requires within { ⌜ from < 16 ⌝ }
     ensures { λ r. ⌜ ((u : ℕ) → Decides (getD r u false) (After (Along (now (t .entry)) w) from u)) ⌝ }
 {
@@ -70,7 +70,7 @@ pub fn after(t: &Table, w: Option<Mark>, from: usize) -> [bool; 16]
 }
 
 /// Has the state `s` a move with the mark `d`, so that the end that sends these messages may send there?
-pub fn may_send(t: &Table, d: Mark, s: usize) -> bool
+pub(crate) fn may_send(t: &Table, d: Mark, s: usize) -> bool
     requires within { ⌜ s < 16 ⌝ }
     ensures { λ r. ⌜ Decides r (MaySend (now (t .entry)) d s) ⌝ }
 {

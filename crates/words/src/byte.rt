@@ -21,14 +21,14 @@ fn is_blank(b: u8) -> bool
 }
 
 /// Whether a byte is a letter.
-pub fn is_letter(b: u8) -> bool
+pub(crate) fn is_letter(b: u8) -> bool
     ensures { λ r. ⌜ r ≡ letter b ⌝ }
 {
     b >= b'A' && b <= b'Z' || b >= b'a' && b <= b'z'
 }
 
 /// Whether a byte is a digit.
-pub fn is_digit(b: u8) -> bool
+pub(crate) fn is_digit(b: u8) -> bool
     ensures { λ r. ⌜ r ≡ digit b ⌝ }
 {
     b >= b'0' && b <= b'9'
@@ -46,7 +46,7 @@ fn is_of(class: Class, b: u8) -> bool
 }
 
 /// How many bytes at the front are of a class.
-pub fn run(class: Class, bytes: &[u8]) -> usize
+pub(crate) fn run(class: Class, bytes: &[u8]) -> usize
     ensures within { λ r. ⌜ r ≤ length (now (bytes .entry)) ⌝ }
     ensures value { λ r. ⌜ r ≡ runOf (member class) (now (bytes .entry)) ⌝ }
 {

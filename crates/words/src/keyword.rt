@@ -29,7 +29,7 @@ const KEYWORDS: [Keyword; 20] = [
 ];
 
 /// The bytes of a reserved word.
-pub fn spelling(keyword: Keyword) -> &'static [u8]
+pub(crate) fn spelling(keyword: Keyword) -> &'static [u8]
     ensures { λ r. ⌜ now r ≡ spelled keyword ⌝ }
 {
     match keyword {
@@ -57,7 +57,7 @@ pub fn spelling(keyword: Keyword) -> &'static [u8]
 }
 
 /// Whether two parts of a text have the same bytes.
-pub fn same_bytes(a: &[u8], b: &[u8]) -> bool
+pub(crate) fn same_bytes(a: &[u8], b: &[u8]) -> bool
     ensures { λ r. ⌜ r ≡ sameBytes (now (a .entry)) (now (b .entry)) ⌝ }
 {
     a == b
@@ -76,7 +76,7 @@ fn first_spelled(keywords: &[Keyword], bytes: &[u8]) -> Option<Keyword>
 }
 
 /// The reserved word with these bytes, if one has them.
-pub fn reserved(bytes: &[u8]) -> Option<Keyword>
+pub(crate) fn reserved(bytes: &[u8]) -> Option<Keyword>
     ensures { λ r. ⌜ r ≡ reservedAs (now (bytes .entry)) ⌝ }
 {
     first_spelled(&KEYWORDS, bytes)

@@ -86,7 +86,7 @@ fn mark<'a>(b: u8, place: usize) -> Result<Word<'a>, usize>
 }
 
 /// What begins at the front of `bytes`: a word, or how many bytes are at fault.
-pub fn word_at<'a>(bytes: &'a [u8], place: usize) -> Result<Word<'a>, usize>
+pub(crate) fn word_at<'a>(bytes: &'a [u8], place: usize) -> Result<Word<'a>, usize>
     requires { ⌜ 0 < length (now bytes) ⌝ }
     ensures { λ r. ⌜ wordOr r ≡ placed place (lexeme (now (bytes .entry)) place) ⌝ }
 {

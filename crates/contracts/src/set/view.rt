@@ -4,7 +4,6 @@ ghost use Prim.Native.Nat.{_<_, _≤_};
 ghost use lib.ListN.{length};
 ghost use Rattle.contracts.specs.Tables.{messageAt, messages, stateAt, states, tableAt};
 ghost use Rattle.contracts.specs.View.{OfContract, OfPart, tablesIn, targetAt};
-ghost use Rattle.std.specs.Options.{Cases as BySome};
 use super::ContractSet;
 use crate::declaration::Message;
 use crate::table::Table;
@@ -36,29 +35,6 @@ impl ContractSet {
             return None;
         }
         Some(self.table(contract).declaration.name)
-    }
-
-    /// How many messages a contract has, at most 16; none where there is no such contract.
-    pub fn message_count(&self, contract: usize) -> Option<usize>
-        ensures answer { λ r. ⌜ OfContract (tablesIn (now (self .entry))) contract (messages (tableAt (tablesIn (now (self .entry))) contract)) r ⌝ }
-        ensures few { λ r. ⌜ BySome r (Unit {0}) (λ n. n ≤ 16) ⌝ }
-    {
-        if contract >= self.contract_count() {
-            return None;
-        }
-        Some(self.table(contract).declaration.message_count)
-    }
-
-    /// How many states a contract has, 1 to 16; none where there is no such contract.
-    pub fn state_count(&self, contract: usize) -> Option<usize>
-        ensures answer { λ r. ⌜ OfContract (tablesIn (now (self .entry))) contract (states (tableAt (tablesIn (now (self .entry))) contract)) r ⌝ }
-        ensures some { λ r. ⌜ BySome r (Unit {0}) (λ n. 0 < n) ⌝ }
-        ensures few { λ r. ⌜ BySome r (Unit {0}) (λ n. n ≤ 16) ⌝ }
-    {
-        if contract >= self.contract_count() {
-            return None;
-        }
-        Some(self.table(contract).declaration.state_count)
     }
 
     /// A message of a contract; none where there is no such contract or message.
