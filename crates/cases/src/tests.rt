@@ -27,19 +27,27 @@ fn fault(text: &[u8]) -> (u8, usize, usize) {
 
 #[test]
 fn a_scale_has_bounds_one_and_one() -> Result<(), Fail> {
-    let text = b"contract Scale { out Load block; in Done; state Full { Load! -> Empty; } state Empty { Done? -> Full; } }";
+    let text =
+        b"contract Scale { out Load block; in Done; state Full { Load! -> Empty; } state Empty { Done? -> Full; } }";
     check_eq(bounds(text), Some((1, 1)))
 }
 
 #[test]
 fn faults_stand_at_their_words() -> Result<(), Fail> {
-    check_eq(fault(b"contract A { out M; state S { M! -> S; } }"), (13, 26, 1))?;
-    check_eq(fault(b"contract A { out M; in N; state S { M! -> S; N? -> S; } }"), (11, 45, 1))?;
+    check_eq(
+        fault(b"contract A { out M; state S { M! -> S; } }"),
+        (13, 26, 1),
+    )?;
+    check_eq(
+        fault(b"contract A { out M; in N; state S { M! -> S; N? -> S; } }"),
+        (11, 45, 1),
+    )?;
     check_eq(fault(b""), (4, 0, 0))
 }
 
 #[test]
 fn sixteen_states_in_a_chain_have_bounds_fifteen_and_none() -> Result<(), Fail> {
-    let text = b"contract C{out M;state A{M!->B;}state B{M!->C;}state C{M!->D;}state D{M!->E;}state E{M!->F;}state F{M!->G;}state G{M!->H;}state H{M!->I;}state I{M!->J;}state J{M!->K;}state K{M!->L;}state L{M!->M;}state M{M!->N;}state N{M!->O;}state O{M!->P;}state P{}}";
+    let text =
+        b"contract C{out M;state A{M!->B;}state B{M!->C;}state C{M!->D;}state D{M!->E;}state E{M!->F;}state F{M!->G;}state G{M!->H;}state H{M!->I;}state I{M!->J;}state J{M!->K;}state K{M!->L;}state L{M!->M;}state M{M!->N;}state N{M!->O;}state O{M!->P;}state P{}}";
     check_eq(bounds(text), Some((15, 0)))
 }

@@ -40,20 +40,21 @@ has-state (c ∷ cs) h (suc k) l = has-state cs (h .1) k (omega arith)
 
 pub inhabited-of : (cs : List ContractTree) → (cs ≡ [] → ⊥) → Stated cs → Inhabited (partsOf cs)
 inhabited-of cs some stated = record {
-    some = let e = length-map cs headTree in omega (arith, e, not-empty cs some);
-    stated = λ k l. has-state cs stated k (let e = length-map cs headTree in omega (arith, e, l));
-  }
+  some = let e = length-map cs headTree in omega (arith, e, not-empty cs some);
+  stated = λ k l. has-state cs stated k (let e = length-map cs headTree in omega (arith, e, l));
+}
 
 module _ (text : List ℕ) where
   pub short-of : (t : Tree) (e : GrammarFault) → (4096 < length text → _≡_ {A = Result Tree GrammarFault} (Ok t) (Err e)) → length text ≤ 4096
   short-of t e h = elim (cases-lt 4096 (length text)) [ inl l ↦ (let e = h l in let z : _≡_ {A = ℕ} 0 1 = cc in absurd (omega arith)) | inr l ↦ l ]
 
   pub refused-of : (e : GrammarFault) → (4096 < length text → _≡_ {A = Result Tree GrammarFault} (Err e) (Err (g.Word (tooLarge Contracts))))
-    → (length text ≤ 4096 → Right (wordsOf text) (Err e)) → Refused text (f.Grammar e)
+      → (length text ≤ 4096 → Right (wordsOf text) (Err e)) → Refused text (f.Grammar e)
   refused-of e h r =
-      elim (cases-lt 4096 (length text))
-        [ inl l ↦ (let q = h l in let z : e ≡ g.Word (tooLarge Contracts) = cc in large l (ap f.Grammar z))
-        | inr l ↦ unread l e (r l) refl ]
+      elim (cases-lt 4096 (length text)) [
+        | inl l ↦ (let q = h l in let z : e ≡ g.Word (tooLarge Contracts) = cc in large l (ap f.Grammar z))
+        | inr l ↦ unread l e (r l) refl
+      ]
 
 module _ (text : List ℕ) (short : length text ≤ 4096) (p : Parts) (r : Right (wordsOf text) (Ok p)) where
   pub read-as : ReadAs text (r .2)

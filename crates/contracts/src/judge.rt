@@ -24,7 +24,11 @@ use words::name::Ident;
 fn span_of(ident: Ident) -> Span
     ensures { λ r. ⌜ r ≡ spanAt ident ⌝ }
 {
-    Span { source: Source::Contracts, place: ident.place, len: ident.name.len }
+    Span {
+        source: Source::Contracts,
+        place: ident.place,
+        len: ident.name.len,
+    }
 }
 
 // Where the name of a state stands.

@@ -6,7 +6,8 @@ use std::env;
 use std::error::AnyError;
 use std::fs;
 
-const HELP: &str = "finds check CONTRACTS   tries the contracts and prints what was accepted, or the refusal\nfinds help              prints this\n";
+const HELP: &str =
+    "finds check CONTRACTS   tries the contracts and prints what was accepted, or the refusal\nfinds help              prints this\n";
 
 // Tries a contract file, and prints the accepted set or the refusal.
 fn check_file(rt: &LibcRuntime, path: &str) -> Result<(), AnyError> {

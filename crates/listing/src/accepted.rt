@@ -20,7 +20,11 @@ fn push_payload(heap: Global, out: &mut String, payload: Payload) -> Result<(), 
     match payload {
         Payload::Nothing => Ok(()),
         Payload::Block => out.push_str(" block"),
-        Payload::End { role, contract, state } => {
+        Payload::End {
+            role,
+            contract,
+            state,
+        } => {
             let end = match role {
                 Role::Exporting => "exp",
                 Role::Importing => "imp",
@@ -42,7 +46,13 @@ fn push_message(heap: Global, out: &mut String, message: Message) -> Result<(), 
 }
 
 // The moves of a state, in the order of message numbers.
-fn push_moves(heap: Global, out: &mut String, set: &ContractSet, contract: usize, state: usize) -> Result<(), AllocError> {
+fn push_moves(
+    heap: Global,
+    out: &mut String,
+    set: &ContractSet,
+    contract: usize,
+    state: usize,
+) -> Result<(), AllocError> {
     for m in 0..16 {
         let Some(message) = set.message(contract, m) else {
             return Ok(());
@@ -59,7 +69,12 @@ fn push_moves(heap: Global, out: &mut String, set: &ContractSet, contract: usize
     Ok(())
 }
 
-fn push_states(heap: Global, out: &mut String, set: &ContractSet, contract: usize) -> Result<(), AllocError> {
+fn push_states(
+    heap: Global,
+    out: &mut String,
+    set: &ContractSet,
+    contract: usize,
+) -> Result<(), AllocError> {
     for s in 0..16 {
         let Some(name) = set.state_name(contract, s) else {
             return Ok(());
@@ -72,7 +87,12 @@ fn push_states(heap: Global, out: &mut String, set: &ContractSet, contract: usiz
     Ok(())
 }
 
-fn push_messages(heap: Global, out: &mut String, set: &ContractSet, contract: usize) -> Result<(), AllocError> {
+fn push_messages(
+    heap: Global,
+    out: &mut String,
+    set: &ContractSet,
+    contract: usize,
+) -> Result<(), AllocError> {
     for m in 0..16 {
         let Some(message) = set.message(contract, m) else {
             return Ok(());
@@ -82,7 +102,12 @@ fn push_messages(heap: Global, out: &mut String, set: &ContractSet, contract: us
     Ok(())
 }
 
-fn push_contract(heap: Global, out: &mut String, set: &ContractSet, contract: usize) -> Result<(), AllocError> {
+fn push_contract(
+    heap: Global,
+    out: &mut String,
+    set: &ContractSet,
+    contract: usize,
+) -> Result<(), AllocError> {
     let Some(name) = set.contract_name(contract) else {
         return Ok(());
     };

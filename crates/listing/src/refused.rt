@@ -21,7 +21,10 @@ pub fn fault_line(heap: Global, report: Report) -> Result<String, AllocError>
     let text = report.text;
     let place = report.place;
     let len = report.len;
-    format!(heap, "fault {number} layer {layer} text {text} place {place} length {len}")
+    format!(
+        heap,
+        "fault {number} layer {layer} text {text} place {place} length {len}"
+    )
 }
 
 // A refusal's number in plain words.
@@ -74,7 +77,11 @@ fn line_feeds(before: &[u8]) -> usize
 fn front(text: &[u8], place: usize) -> &[u8]
     ensures { λ r. ⌜ now r ≡ take place (now (text .entry)) ⌝ }
 {
-    if place < text.len() { &text[0..place] } else { text }
+    if place < text.len() {
+        &text[0..place]
+    } else {
+        text
+    }
 }
 
 // A byte as one printed character: itself, or a space where it cannot be printed.
@@ -133,7 +140,12 @@ fn times(heap: Global, c: u8, count: usize) -> Result<String, AllocError>
 
 /// The refusal for people: the fault line, then file, line and column, the line with the word underlined, and what is
 /// wrong. At the text's end one mark stands where the next word would.
-pub fn explain(heap: Global, file: &str, text: &[u8], report: Report) -> Result<String, AllocError> {
+pub fn explain(
+    heap: Global,
+    file: &str,
+    text: &[u8],
+    report: Report,
+) -> Result<String, AllocError> {
     let fault = fault_line(heap, report)?;
     let before = front(text, report.place);
     let start = line_start(before);
@@ -144,5 +156,8 @@ pub fn explain(heap: Global, file: &str, text: &[u8], report: Report) -> Result<
     let marks = times(heap, b'^', report.len.max(1))?;
     let number = report.number;
     let words = meaning(number);
-    format!(heap, "{fault}\n{file}:{line}:{column}\n{row}\n{indent}{marks}\nrefused {number}: {words}\n")
+    format!(
+        heap,
+        "{fault}\n{file}:{line}:{column}\n{row}\n{indent}{marks}\nrefused {number}: {words}\n"
+    )
 }

@@ -1,5 +1,6 @@
 -- The grammar of contract files as a table, with what has been read so far.
 --   Progress           what has been read inside a contract: the contracts and moves so far, and what this one declares
+--   begun, addMessage, addState, addMove, ended     what has been read with one entry more
 --   At                 how far a file has been read
 --   ask q              the words that may stand next
 --   reading q from     what becomes of the file of which the feed has the rest, at q

@@ -1,5 +1,6 @@
 -- What the code reads off a fetched word.
 --   inMark y, inContract, inContractOrEnd, inMessage, inCargo, inWay, inMove, inState    what a word says, if it is one that is asked for
+--   left from            the words that a feed has left
 --   fetched f from       what f reads off the next word of a feed, or the fault
 --   Moved a b            the feed b is the feed a after one word
 --   admitted from n full seen     whether the name n may join its family

@@ -1,9 +1,14 @@
 -- A grammar as a table: which words may stand next, and what each leads to. Q is how far a text has been read, R what it is in the end.
+--   keyCode, markCode      a number for each reserved word and each mark
+--   isKey, isMark, isEnd, inName     whether a word is this one; the name that it says
+--   sameName, known n ns   whether two names are the same; whether n stands among ns
 --   Check                  whether a name may join its family: fine, one too many, or there before
 --   admission limit ns n   the check of the name n in a family that has the names ns and room for limit
 --   Turn                   what an allowed word leads to: on, on by a name that is checked, or to the end
 --   Alt                    a word that may stand next: a reserved word, a mark, any name, the end
---   among alts x           what x leads to, if it is one of alts
+--   tried, among alts x    what x leads to, if it is one of alts
+--   judged, resume, after  what becomes of a text by a check, by a turn, by a word
+--   refused from w         the fault that the word w is not allowed where it stands
 --   run ask from q s       what becomes of the text whose words s are left at q
 --   picked from f h        what f reads off a fetched word h, or the fault
 --   Goes o r onward        a part was read: the text comes out as o, and so it does from where the part ends

@@ -14,7 +14,7 @@ index-messages-m c =
 pub offset-messages-m : need.offset-messages-m
 offset-messages-m c =
     let h : c .args .m < length (c .messages .result .now) =
-      subst (λ (xs : List Message). c .args .m < length xs) (sym (messages-at (c .args .heads .now) (c .args .contract) _ (c .messages .ensures))) (c .pre .message)
+    subst (λ (xs : List Message). c .args .m < length xs) (sym (messages-at (c .args .heads .now) (c .args .contract) _ (c .messages .ensures))) (c .pre .message)
     in search (needs, h)
 
 pub returns : need.returns

@@ -14,7 +14,7 @@ index-states-s c =
 pub offset-states-s : need.offset-states-s
 offset-states-s c =
     let h : c .args .s < length (c .states .result .now) =
-      subst (λ (xs : List Ident). c .args .s < length xs) (sym (states-at (c .args .heads .now) (c .args .contract) _ (c .states .ensures))) (c .pre .state)
+    subst (λ (xs : List Ident). c .args .s < length xs) (sym (states-at (c .args .heads .now) (c .args .contract) _ (c .states .ensures))) (c .pre .state)
     in search (needs, h)
 
 pub returns : need.returns

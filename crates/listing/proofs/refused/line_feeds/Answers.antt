@@ -11,12 +11,13 @@ use Rattle.listing.proofs.refused.line_feeds.Needs.{then-b-eq10, else-b-eq10}
 pub loop-b-again : need.loop-b-again
 loop-b-again c =
     elim (c .if-b-eq10 .came) [
-      then-b-eq10 w ↦
-        let e = countBy-more-yes isLineFeed (c .args .before .now) (c .loop-b .b-index) 0 (c .loop-b-test .taken) (eq-eqb _ 10 (w .if-b-eq10 .taken)) in
-        (omega (arith, e, w .count-is, c .loop-b .inv .0), omega (arith, w .count-is, c .loop-b .inv .1))
-    | else-b-eq10 w ↦
-        let e = countBy-more-no isLineFeed (c .args .before .now) (c .loop-b .b-index) 0 (c .loop-b-test .taken) (ne-eqb _ 10 (w .if-b-eq10 .left)) in
-        (omega (arith, e, w .count-is, c .loop-b .inv .0), omega (arith, w .count-is, c .loop-b .inv .1)) ]
+      | then-b-eq10 w ↦
+          let e = countBy-more-yes isLineFeed (c .args .before .now) (c .loop-b .b-index) 0 (c .loop-b-test .taken) (eq-eqb _ 10 (w .if-b-eq10 .taken)) in
+          (omega (arith, e, w .count-is, c .loop-b .inv .0), omega (arith, w .count-is, c .loop-b .inv .1))
+      | else-b-eq10 w ↦
+          let e = countBy-more-no isLineFeed (c .args .before .now) (c .loop-b .b-index) 0 (c .loop-b-test .taken) (ne-eqb _ 10 (w .if-b-eq10 .left)) in
+          (omega (arith, e, w .count-is, c .loop-b .inv .0), omega (arith, w .count-is, c .loop-b .inv .1))
+    ]
 
 pub returns : need.returns
 returns c = c .loop-b .inv .0 ∙ search (needs, take-all)
