@@ -1,5 +1,6 @@
 // The worked examples, as tests of the checker.
 use contracts::check::check;
+use listing::refused::explain;
 use std::test::Fail;
 use std::test::check_eq;
 
@@ -50,4 +51,17 @@ fn sixteen_states_in_a_chain_have_bounds_fifteen_and_none() -> Result<(), Fail> 
     let text =
         b"contract C{out M;state A{M!->B;}state B{M!->C;}state C{M!->D;}state D{M!->E;}state E{M!->F;}state F{M!->G;}state G{M!->H;}state H{M!->I;}state I{M!->J;}state J{M!->K;}state K{M!->L;}state L{M!->M;}state M{M!->N;}state N{M!->O;}state O{M!->P;}state P{}}";
     check_eq(bounds(text), Some((15, 0)))
+}
+
+#[test]
+fn a_refusal_shows_file_line_column_and_word(rt: LibcRuntime) -> Result<(), Fail> {
+    let text = b"contract A {\n  out M;\n  in N;\n  state S { M! -> S; N? -> S; }\n}\n";
+    let Err(fault) = check(text) else {
+        return Err(Fail::new("accepted"));
+    };
+    let shown = explain(rt.alloc(), "dig.txt", text, fault.report())?;
+    check_eq(
+        shown.as_str(),
+        "fault 11 layer 3 text 0 place 51 length 1\ndig.txt:4:22\n  state S { M! -> S; N? -> S; }\n                     ^\nrefused 11: the mark of this move differs from that of the state's first move\n",
+    )
 }

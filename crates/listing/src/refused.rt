@@ -27,14 +27,16 @@ pub fn fault_line(heap: Global, report: Report) -> Result<String, AllocError>
     )
 }
 
-// A refusal's number in plain words.
-fn meaning(number: u8) -> &'static str {
-    match number {
+// A refusal in plain words.
+fn meaning(report: Report) -> &'static str {
+    match report.number {
         2 => "the text has more than 4096 bytes",
-        3 => "no word begins here, or a name or number is too long",
-        4 => "this is not allowed here",
+        3 if report.len == 1 => "no word begins with this byte",
+        3 => "this is too long: a name has at most 16 bytes, a number three digits",
+        4 if report.len == 0 => "the text ends too soon",
+        4 => "this word is not allowed here",
         5 => "this number is outside its range",
-        6 => "this is one more than there may be",
+        6 => "this is one too many: there may be 8 contracts, and 16 messages and states in each",
         7 => "this name is taken already",
         8 => "this name is not declared",
         9 => "the mark of this move disagrees with its message",
@@ -155,7 +157,7 @@ pub fn explain(
     let indent = times(heap, b' ', before.len() - start)?;
     let marks = times(heap, b'^', report.len.max(1))?;
     let number = report.number;
-    let words = meaning(number);
+    let words = meaning(report);
     format!(
         heap,
         "{fault}\n{file}:{line}:{column}\n{row}\n{indent}{marks}\nrefused {number}: {words}\n"
