@@ -1,13 +1,13 @@
 // A refusal as people read it: the fault's numbers, file, line and column, the line with the word underlined, and the
 // refusal in plain words.
 ghost use mathlib.Core.Path.{_≡_};
-ghost use mathlib.Core.List.{map};
-ghost use Prim.Native.Nat.{_<_, _≤_};
+ghost use mathlib.Core.List.{_++_, map};
+ghost use Prim.Native.Nat.{_<_, _≤_, max};
 ghost use lib.ListN.{length, drop, replicate, take};
 ghost use Rattle.std.specs.Of.String.{string-bytes};
 ghost use Rattle.std.specs.Vec.{made};
 ghost use Rattle.std.specs.shelf.Lists.{countBy, leading};
-ghost use Rattle.listing.specs.Lines.{faultLine, inLine, isLineFeed, shownByte, LineStart};
+ghost use Rattle.listing.specs.Lines.{faultLine, inLine, isLineFeed, shownByte, pageOf, positionOf, Explains, LineStart};
 use std::alloc::AllocError;
 use std::alloc::Global;
 use words::fault::Report;
@@ -140,6 +140,37 @@ fn times(heap: Global, c: u8, count: usize) -> Result<String, AllocError>
     Ok(out)
 }
 
+// The lines of a refusal: fault, place, row and mark, and words.
+fn page(
+    heap: Global,
+    fault: &str,
+    place: &str,
+    row: &str,
+    mark: &str,
+    number: u8,
+    words: &str,
+) -> Result<String, AllocError>
+    ensures { λ r. ⌜ made r (λ s. string-bytes s ≡ pageOf (now (fault .entry)) (now (place .entry)) (now (row .entry)) (now (mark .entry)) number (now (words .entry))) ⌝ }
+{
+    format!(heap, "{fault}\n{place}\n{row}\n{mark}\nrefused {number}: {words}\n")
+}
+
+// A place for people: the file, the line and the column.
+fn position(heap: Global, file: &str, line: usize, column: usize) -> Result<String, AllocError>
+    ensures { λ r. ⌜ made r (λ s. string-bytes s ≡ positionOf (now (file .entry)) line column) ⌝ }
+{
+    format!(heap, "{file}:{line}:{column}")
+}
+
+// Spaces, and then as many marks as the word at fault has bytes, or one.
+fn underline(heap: Global, indent: usize, len: usize) -> Result<String, AllocError>
+    ensures { λ r. ⌜ made r (λ s. string-bytes s ≡ replicate indent 32 ++ replicate (max len 1) 94) ⌝ }
+{
+    let spaces = times(heap, b' ', indent)?;
+    let marks = times(heap, b'^', len.max(1))?;
+    format!(heap, "{spaces}{marks}")
+}
+
 /// The refusal for people: the fault line, then file, line and column, the line with the word underlined, and what is
 /// wrong. At the text's end one mark stands where the next word would.
 pub fn explain(
@@ -147,19 +178,19 @@ pub fn explain(
     file: &str,
     text: &[u8],
     report: Report,
-) -> Result<String, AllocError> {
-    let fault = fault_line(heap, report)?;
+) -> Result<String, AllocError>
+    ensures { λ r. ⌜ made r (λ s. Explains (now (file .entry)) (now (text .entry)) report (string-bytes s)) ⌝ }
+{
     let before = front(text, report.place);
     let start = line_start(before);
+    let indent = before.len() - start;
     let line = line_feeds(before).saturating_add(1);
-    let column = (before.len() - start).saturating_add(1);
+    let column = indent.saturating_add(1);
+    let fault = fault_line(heap, report)?;
+    let place = position(heap, file, line, column)?;
     let row = show(heap, line_at(text, start))?;
-    let indent = times(heap, b' ', before.len() - start)?;
-    let marks = times(heap, b'^', report.len.max(1))?;
+    let mark = underline(heap, indent, report.len)?;
     let number = report.number;
     let words = meaning(report);
-    format!(
-        heap,
-        "{fault}\n{file}:{line}:{column}\n{row}\n{indent}{marks}\nrefused {number}: {words}\n"
-    )
+    page(heap, fault.as_str(), place.as_str(), row.as_str(), mark.as_str(), number, words)
 }
