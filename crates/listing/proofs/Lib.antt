@@ -1,2 +1,3 @@
 pub mod Replicates
 pub mod Shown
+pub mod Joined

@@ -51,6 +51,6 @@ pub record Explains (file text : List ℕ) (f : Report) (s : List ℕ) : Type 0 
   pub words : List ℕ
   pub starts : LineStart (take (f .place) text) start
   pub says : s ≡ pageOf (faultLine f)
-    (positionOf file (min (countBy isLineFeed (take (f .place) text) + 1) (2 ^ 64 - 1)) (min (length (take (f .place) text) - start + 1) (2 ^ 64 - 1)))
-    (map shownByte (take (leading inLine (drop start text)) (drop start text)))
-    (replicate (length (take (f .place) text) - start) 32 ++ replicate (max (f .len) 1) 94) (f .number) words
+      (positionOf file (min (countBy isLineFeed (take (f .place) text) + 1) (2 ^ 64 - 1)) (min (length (take (f .place) text) - start + 1) (2 ^ 64 - 1)))
+      (map shownByte (take (leading inLine (drop start text)) (drop start text)))
+      (replicate (length (take (f .place) text) - start) 32 ++ replicate (max (f .len) 1) 94) (f .number) words

@@ -118,7 +118,7 @@ fn line_at(text: &[u8], start: usize) -> &[u8]
 }
 
 // Bytes, each as one printed character.
-fn show(heap: Global, bytes: &[u8]) -> Result<String, AllocError>
+pub(crate) fn show(heap: Global, bytes: &[u8]) -> Result<String, AllocError>
     ensures { λ r. ⌜ made r (λ s. string-bytes s ≡ map shownByte (now (bytes .entry))) ⌝ }
 {
     let mut out = String::new(heap);
@@ -152,7 +152,10 @@ fn page(
 ) -> Result<String, AllocError>
     ensures { λ r. ⌜ made r (λ s. string-bytes s ≡ pageOf (now (fault .entry)) (now (place .entry)) (now (row .entry)) (now (mark .entry)) number (now (words .entry))) ⌝ }
 {
-    format!(heap, "{fault}\n{place}\n{row}\n{mark}\nrefused {number}: {words}\n")
+    format!(
+        heap,
+        "{fault}\n{place}\n{row}\n{mark}\nrefused {number}: {words}\n"
+    )
 }
 
 // A place for people: the file, the line and the column.
@@ -173,12 +176,7 @@ fn underline(heap: Global, indent: usize, len: usize) -> Result<String, AllocErr
 
 /// The refusal for people: the fault line, then file, line and column, the line with the word underlined, and what is
 /// wrong. At the text's end one mark stands where the next word would.
-pub fn explain(
-    heap: Global,
-    file: &str,
-    text: &[u8],
-    report: Report,
-) -> Result<String, AllocError>
+pub fn explain(heap: Global, file: &str, text: &[u8], report: Report) -> Result<String, AllocError>
     ensures { λ r. ⌜ made r (λ s. Explains (now (file .entry)) (now (text .entry)) report (string-bytes s)) ⌝ }
 {
     let before = front(text, report.place);
@@ -192,5 +190,13 @@ pub fn explain(
     let mark = underline(heap, indent, report.len)?;
     let number = report.number;
     let words = meaning(report);
-    page(heap, fault.as_str(), place.as_str(), row.as_str(), mark.as_str(), number, words)
+    page(
+        heap,
+        fault.as_str(),
+        place.as_str(),
+        row.as_str(),
+        mark.as_str(),
+        number,
+        words,
+    )
 }
