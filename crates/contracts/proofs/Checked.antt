@@ -4,12 +4,16 @@
 --   short-of        a text of which a file was read is not too large
 --   refused-of      a text of which no file was read is refused
 --   checked         a judgement of what was read is the answer to the text
+--   never-unread    of a text that spells a file a file is read
+--   accepted-of     a text that spells a file which keeps every rule is accepted
 use Prim.Native.Nat.{ℕ, zero, suc, _<_, _≤_}
 use native.Mathlib.Omega.{arith}
+use mathlib.Core.Bool.{true}
 use mathlib.Core.Path.{_≡_, refl, sym, ap, subst, _∙_}
 use mathlib.Core.List.{List, [], _∷_, map}
 use mathlib.Core.Logic.{inl, inr}
 use lib.ListN.{length, length-map}
+use Rattle.std.specs.Results.{isOk}
 use Rattle.std.specs.declared.result.Result.{Result}
 use Rattle.std.specs.declared.result.Result.the-variants.{Ok, Err}
 use Rattle.std.proofs.shelf.Tests.{cases-lt}
@@ -20,14 +24,16 @@ use Rattle.syntax.specs.declared.fault.GrammarFault.{GrammarFault}
 use Rattle.syntax.specs.declared.fault.GrammarFault.the-variants as g
 use Rattle.syntax.specs.declared.tree.Tree.{Tree}
 use Rattle.syntax.specs.Grammar.{Stated}
-use Rattle.syntax.specs.Laws.{Right}
+use Rattle.syntax.specs.Laws.{Exact, Right, signs}
 use Rattle.syntax.specs.Trees.{ContractTree, Parts, StateTree, headTree, partsOf}
+use Rattle.syntax.proofs.Distinct.{distinct}
 use Rattle.contracts.specs.declared.fault.RuleFault.{RuleFault}
 use Rattle.contracts.specs.declared.fault.RuleFault.the-variants as f
 use Rattle.contracts.specs.declared.set.ContractSet.{ContractSet}
 use Rattle.contracts.specs.Checks.{Checked, ReadAs, Refused, large, unread, ruled}
-use Rattle.contracts.specs.Judgement.{Inhabited, Judged}
+use Rattle.contracts.specs.Judgement.{Inhabited, Judged, Keeps}
 use Rattle.contracts.specs.Names.{headAt}
+use Rattle.contracts.proofs.Unique.{lawful-accepted}
 
 not-empty : {X : Type 0} (xs : List X) → (xs ≡ [] → ⊥) → 0 < length xs
 not-empty [] h = absurd (h refl)
@@ -66,3 +72,16 @@ module _ (text : List ℕ) (short : length text ≤ 4096) (p : Parts) (r : Right
   pub checked : (a : Result ContractSet RuleFault) → Judged p a → Checked text a
   checked (Ok set) h = (r .2, read-as, subst (λ q. Judged q (Ok set)) (r .6) h)
   checked (Err fault) h = ruled (r .2) read-as (subst (λ q. Judged q (Err fault)) (r .6) h)
+
+module _ (text : List ℕ) (cs : List ContractTree) (read : ReadAs text cs) where
+  spelt : (o : Result Parts GrammarFault) → (length text ≤ 4096 → Exact (wordsOf text) o) → o ≡ Ok (partsOf cs)
+  spelt o exact = exact (read .short) (read .words) (read .end) cs (read .stands) (read .clean) (read .spells)
+
+  pub never-unread : (e : GrammarFault) → (length text ≤ 4096 → Exact (wordsOf text) (Err e)) → ⊥
+  never-unread e exact = let q = spelt (Err e) exact in let z : _≡_ {A = ℕ} 0 1 = cc in omega arith
+
+  pub accepted-of : (p : Parts) → (length text ≤ 4096 → Exact (wordsOf text) (Ok p)) → Keeps (partsOf cs) → (a : Result ContractSet RuleFault) → Judged p a → isOk a ≡ true
+  accepted-of p exact keeps a h =
+      let q = spelt (Ok p) exact in
+      let same : p ≡ partsOf cs = cc in
+      lawful-accepted (partsOf cs) (distinct (signs (read .words)) cs (read .spells) (read .clean)) keeps a (subst (λ x. Judged x a) same h)

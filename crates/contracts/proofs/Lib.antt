@@ -16,4 +16,5 @@ pub mod Firsts
 pub mod Numbered
 pub mod Ranges
 pub mod Judging
+pub mod Unique
 pub mod Checked

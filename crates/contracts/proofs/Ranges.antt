@@ -63,6 +63,7 @@ module _ (p : Parts) (ds : List Declaration) (ws : List Written) (r : Ranged p) 
       in let d = n .declared .each (getD (p .moves) i noMove .contract) k
       in rw (w .contract) (k, omega (arith, w .state, o .1, d .state-count), omega (arith, w .message .0, d .message-count), omega (arith, w .target .0, d .state-count))
 
+module _ (p : Parts) (ds : List Declaration) (ws : List Written) (n : Numbers p ds ws) where
   pub all-declared : (d : Ident) → Unresolved p d → ⊥
   all-declared d (inl (k, l, (m, b, h))) =
       let j : k < length ds = omega (arith, n .declared .count)

@@ -5,6 +5,7 @@
 --   Within p b          what breaks the rule is a part of the file
 --   Inhabited p         a file has a contract, and each contract a state
 --   Faulty p fault      fault is the one that is first by the rules
+--   Keeps p             the file p keeps every rule
 --   Kept p set          set is that of the file p, which keeps every rule
 --   Judged p r          r is the set of the file p, which keeps every rule; or the fault that is first by the rules
 use Prim.Native.Nat.{ℕ, _<_}
@@ -24,6 +25,7 @@ use Rattle.contracts.specs.declared.declaration.Written.{Written}
 use Rattle.contracts.specs.declared.fault.RuleFault.{RuleFault}
 use Rattle.contracts.specs.declared.fault.RuleFault.the-variants as f
 use Rattle.contracts.specs.declared.set.ContractSet.{ContractSet}
+use Rattle.contracts.specs.declared.table.Table.{Table}
 use Rattle.contracts.specs.Names.{headAt, noMessage, FirstUnresolved}
 use Rattle.contracts.specs.Numbers.{Numbers}
 use Rattle.contracts.specs.Acceptance.{Accepted, Breaks}
@@ -66,6 +68,14 @@ pub record Inhabited (p : Parts) : Type 0 where
 pub data Faulty (p : Parts) (fault : RuleFault) : Type 0 where
   undeclared : (d : Ident) → FirstUnresolved p d → fault ≡ f.Undeclared (spanOf d) → Faulty p fault
   broken : (ds : List Declaration) (ws : List Written) (rule : Broken) → Numbers p ds ws → Breaks ds ws rule → fault ≡ faultOf p rule → Faulty p fault
+
+-- the names of the file are declared, and its contracts, by numbers and as tables, keep the rules from 9 on
+pub record Keeps (p : Parts) : Type 0 where
+  pub declarations : List Declaration
+  pub moves : List Written
+  pub tables : List Table
+  pub numbers : Numbers p declarations moves
+  pub accepted : Accepted declarations moves tables
 
 -- the set has the tables of the file, which keeps every rule
 pub record Kept (p : Parts) (set : ContractSet) : Type 0 where

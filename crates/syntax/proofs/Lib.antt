@@ -8,6 +8,7 @@ pub mod Spots
 pub mod Law
 pub mod Exact
 pub mod Ranges
+pub mod Distinct
 pub mod Readers
 pub mod Parsers
 pub mod Reading

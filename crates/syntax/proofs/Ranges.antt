@@ -17,7 +17,7 @@ use Rattle.syntax.specs.declared.tree.Move.{Move}
 use Rattle.syntax.specs.declared.tree.MoveEntry.{MoveEntry}
 use Rattle.syntax.specs.Trees.{StateTree, ContractTree, HeadTree, Parts, partsOf, headTree, numbered, entriesOf, moveEntries, noHead, noMove, Ranged}
 use Rattle.syntax.specs.Grammar.{each, wayWord, payloadWords, messageWords, moveWords, stateWords, contractWords, fileWords, Stated, Spells}
-use Rattle.syntax.specs.Laws.{Family, contracts, messages, states, headWords, Passed, Clean}
+use Rattle.syntax.specs.Laws.{Family, contracts, messages, states, headWords, Named, Passed, Clean}
 use Rattle.syntax.proofs.Exact.{clean-at}
 
 each-append : {X : Type 0} (f : X → List Sign) (xs ys : List X) → each f (xs ++ ys) ≡ each f xs ++ each f ys
@@ -41,67 +41,63 @@ stated-before : (pre post : List ContractTree) → Stated (pre ++ post) → Stat
 stated-before [] post h = tt
 stated-before (c ∷ pre) post h = (h .0, stated-before pre post (h .1))
 
--- a name of a family has fewer than the limit before it
-module _ (ws : List Sign) (n : Ident) (rest all : List Sign) (e : all ≡ ws ++ s.Name n ∷ rest) (clean : Clean [] all) where
-  room : (ns : List Ident) (limit : ℕ) → Family ws ns limit → length ns < limit
-  room ns limit f =
-      let p : Passed ws (s.Name n) = clean-at [] ws (s.Name n) rest (subst (λ l. Clean [] l) e clean) in
-      below (λ b. p .within (n, ns, limit, refl, f, b))
-    where
-      below : (limit ≤ length ns → ⊥) → length ns < limit
-      below h = omega arith
+-- a name joins its family: it has room, and the name does not stand in it
+pub record Admitted (n : Ident) (ns : List Ident) (limit : ℕ) : Type 0 where
+  pub room : length ns < limit
+  pub fresh : Named n ns → ⊥
+
+admitted : (ws : List Sign) (n : Ident) (rest all : List Sign) → all ≡ ws ++ s.Name n ∷ rest → Clean [] all → (ns : List Ident) (limit : ℕ) → Family ws ns limit → Admitted n ns limit
+admitted ws n rest all e clean ns limit f = record {
+  room = below (λ b. passed .within (n, ns, limit, refl, f, b));
+  fresh = λ h. passed .fresh (n, ns, limit, refl, f, h);
+}
+  where
+    passed : Passed ws (s.Name n)
+    passed = clean-at [] ws (s.Name n) rest (subst (λ l. Clean [] l) e clean)
+
+    below : (limit ≤ length ns → ⊥) → length ns < limit
+    below h = omega arith
 
 module _ (pre : List ContractTree) (c : ContractTree) (post : List ContractTree) (st : Stated (pre ++ c ∷ post)) (clean : Clean [] (fileWords (pre ++ c ∷ post))) where
-  few-contracts : length pre < 8
-  few-contracts =
-      let r : length (map (λ x. x .ident) pre) < 8 =
-      room (fileWords pre ++ s.Key k.Contract ∷ []) (c .ident) _ _ (each-append contractWords pre (c ∷ post) ∙ sym (append-assoc (fileWords pre) (s.Key k.Contract ∷ []) _)) clean
-      (map (λ x. x .ident) pre) 8 (contracts pre (stated-before pre (c ∷ post) st) refl refl refl) in
-      let l = length-map pre (λ x. x .ident) in omega arith
+  pub contract-admitted : Admitted (c .ident) (map (λ x. x .ident) pre) 8
+  contract-admitted =
+      admitted (fileWords pre ++ s.Key k.Contract ∷ []) (c .ident) _ _ (each-append contractWords pre (c ∷ post) ∙ sym (append-assoc (fileWords pre) (s.Key k.Contract ∷ []) _)) clean
+      (map (λ x. x .ident) pre) 8 (contracts pre (stated-before pre (c ∷ post) st) refl refl refl)
 
   in-contract : (xs ys : List Sign) → contractWords c ≡ xs ++ ys → fileWords (pre ++ c ∷ post) ≡ (fileWords pre ++ xs) ++ (ys ++ fileWords post)
   in-contract xs ys e =
       each-append contractWords pre (c ∷ post) ∙ ap (λ l. fileWords pre ++ (l ++ fileWords post)) e
       ∙ ap (λ l. fileWords pre ++ l) (append-assoc xs ys (fileWords post)) ∙ sym (append-assoc (fileWords pre) xs (ys ++ fileWords post))
 
-  few-messages : length (c .messages) ≤ 16
-  few-messages = at-most 16 (c .messages) (λ us x vs e. before us x vs e)
-    where
-      before : (us : List Message) (x : Message) (vs : List Message) → c .messages ≡ us ++ x ∷ vs → length us < 16
-      before us x vs e =
-          let w : contractWords c ≡ (headWords (c .ident) us ++ wayWord (x .mark) ∷ []) ++ s.Name (x .ident) ∷ (((payloadWords (x .payload) ++ s.Mark m.Semicolon ∷ []) ++ each messageWords vs) ++ (each stateWords (c .states) ++ s.Mark m.CloseBrace ∷ [])) =
-          ap (λ l. s.Key k.Contract ∷ s.Name (c .ident) ∷ s.Mark m.OpenBrace ∷ (l ++ (each stateWords (c .states) ++ s.Mark m.CloseBrace ∷ []))) (ap (each messageWords) e ∙ each-append messageWords us (x ∷ vs))
-          ∙ ap (λ l. s.Key k.Contract ∷ s.Name (c .ident) ∷ s.Mark m.OpenBrace ∷ l) (second (each messageWords us) _ _ _ _) in
-          let r : length (map (λ y. y .ident) us) < 16 =
-          room (fileWords pre ++ (headWords (c .ident) us ++ wayWord (x .mark) ∷ [])) (x .ident) _ _ (in-contract _ _ w) clean
-          (map (λ y. y .ident) us) 16 (messages pre (c .ident) us (x .mark) (stated-before pre (c ∷ post) st) refl refl refl) in
-          let l = length-map us (λ y. y .ident) in omega arith
+  pub message-admitted : (us : List Message) (x : Message) (vs : List Message) → c .messages ≡ us ++ x ∷ vs → Admitted (x .ident) (map (λ y. y .ident) us) 16
+  message-admitted us x vs e =
+      let w : contractWords c ≡ (headWords (c .ident) us ++ wayWord (x .mark) ∷ []) ++ s.Name (x .ident) ∷ (((payloadWords (x .payload) ++ s.Mark m.Semicolon ∷ []) ++ each messageWords vs) ++ (each stateWords (c .states) ++ s.Mark m.CloseBrace ∷ [])) =
+      ap (λ l. s.Key k.Contract ∷ s.Name (c .ident) ∷ s.Mark m.OpenBrace ∷ (l ++ (each stateWords (c .states) ++ s.Mark m.CloseBrace ∷ []))) (ap (each messageWords) e ∙ each-append messageWords us (x ∷ vs))
+      ∙ ap (λ l. s.Key k.Contract ∷ s.Name (c .ident) ∷ s.Mark m.OpenBrace ∷ l) (second (each messageWords us) _ _ _ _) in
+      admitted (fileWords pre ++ (headWords (c .ident) us ++ wayWord (x .mark) ∷ [])) (x .ident) _ _ (in-contract _ _ w) clean
+      (map (λ y. y .ident) us) 16 (messages pre (c .ident) us (x .mark) (stated-before pre (c ∷ post) st) refl refl refl)
 
-  few-states : length (c .states) ≤ 16
-  few-states = at-most 16 (c .states) (λ us x vs e. before us x vs e)
-    where
-      before : (us : List StateTree) (x : StateTree) (vs : List StateTree) → c .states ≡ us ++ x ∷ vs → length us < 16
-      before us x vs e =
-          let w : contractWords c ≡ (headWords (c .ident) (c .messages) ++ (each stateWords us ++ s.Key k.State ∷ [])) ++ s.Name (x .ident) ∷ ((s.Mark m.OpenBrace ∷ (each moveWords (x .moves) ++ s.Mark m.CloseBrace ∷ []) ++ each stateWords vs) ++ s.Mark m.CloseBrace ∷ []) =
-          ap (λ l. headWords (c .ident) (c .messages) ++ (l ++ s.Mark m.CloseBrace ∷ [])) (ap (each stateWords) e ∙ each-append stateWords us (x ∷ vs))
-          ∙ ap (λ l. headWords (c .ident) (c .messages) ++ l) (second (each stateWords us) _ _ _ _)
-          ∙ sym (append-assoc (headWords (c .ident) (c .messages)) (each stateWords us ++ s.Key k.State ∷ []) _) in
-          let r : length (map (λ y. y .ident) us) < 16 =
-          room (fileWords pre ++ (headWords (c .ident) (c .messages) ++ (each stateWords us ++ s.Key k.State ∷ []))) (x .ident) _ _ (in-contract _ _ w) clean
-          (map (λ y. y .ident) us) 16 (states pre (c .ident) (c .messages) us (stated-before pre (c ∷ post) st) refl refl refl) in
-          let l = length-map us (λ y. y .ident) in omega arith
+  pub state-admitted : (us : List StateTree) (x : StateTree) (vs : List StateTree) → c .states ≡ us ++ x ∷ vs → Admitted (x .ident) (map (λ y. y .ident) us) 16
+  state-admitted us x vs e =
+      let w : contractWords c ≡ (headWords (c .ident) (c .messages) ++ (each stateWords us ++ s.Key k.State ∷ [])) ++ s.Name (x .ident) ∷ ((s.Mark m.OpenBrace ∷ (each moveWords (x .moves) ++ s.Mark m.CloseBrace ∷ []) ++ each stateWords vs) ++ s.Mark m.CloseBrace ∷ []) =
+      ap (λ l. headWords (c .ident) (c .messages) ++ (l ++ s.Mark m.CloseBrace ∷ [])) (ap (each stateWords) e ∙ each-append stateWords us (x ∷ vs))
+      ∙ ap (λ l. headWords (c .ident) (c .messages) ++ l) (second (each stateWords us) _ _ _ _)
+      ∙ sym (append-assoc (headWords (c .ident) (c .messages)) (each stateWords us ++ s.Key k.State ∷ []) _) in
+      admitted (fileWords pre ++ (headWords (c .ident) (c .messages) ++ (each stateWords us ++ s.Key k.State ∷ []))) (x .ident) _ _ (in-contract _ _ w) clean
+      (map (λ y. y .ident) us) 16 (states pre (c .ident) (c .messages) us (stated-before pre (c ∷ post) st) refl refl refl)
+
+-- a family of which each name was admitted has at most as many as the limit
+few : {X : Type 0} (f : X → Ident) (limit : ℕ) (xs : List X) → ((us : List X) (x : X) (vs : List X) → xs ≡ us ++ x ∷ vs → Admitted (f x) (map f us) limit) → length xs ≤ limit
+few f limit xs h = at-most limit xs (λ us x vs e. let l = length-map us f in let r = h us x vs e .room in omega arith)
+
+-- what holds of each contract that a list of them has holds of what each of them declares
+pub each-head : (P : HeadTree → Type 0) → P noHead → (pre cs : List ContractTree) → ((us : List ContractTree) (c : ContractTree) (vs : List ContractTree) → pre ++ cs ≡ us ++ c ∷ vs → P (headTree c)) → (i : ℕ) → P (getD (map headTree cs) i noHead)
+each-head P past pre [] h i = past
+each-head P past pre (c ∷ cs) h zero = h pre c cs refl
+each-head P past pre (c ∷ cs) h (suc i) = each-head P past (pre ++ c ∷ []) cs (λ us x vs e. h us x vs (sym (append-assoc pre (c ∷ []) cs) ∙ e)) i
 
 Small : HeadTree → Type 0
 Small h = (length (h .messages) ≤ 16) × (length (h .states) ≤ 16)
-
-small : (pre cs : List ContractTree) → Stated (pre ++ cs) → Clean [] (fileWords (pre ++ cs)) → (i : ℕ) → Small (getD (map headTree cs) i noHead)
-unfolding Small
-small pre [] st clean i = (omega arith, omega arith)
-small pre (c ∷ cs) st clean zero =
-    (few-messages pre c cs st clean, (let l = length-map (c .states) (λ x. x .ident) in let f = few-states pre c cs st clean in omega arith))
-small pre (c ∷ cs) st clean (suc i) =
-    let e : pre ++ c ∷ cs ≡ (pre ++ c ∷ []) ++ cs = sym (append-assoc pre (c ∷ []) cs) in
-    small (pre ++ c ∷ []) cs (subst Stated e st) (subst (λ l. Clean [] (fileWords l)) e clean) i
 
 -- what holds of each element
 abbrev Each : {X : Type 0} → (X → Type 0) → List X → Type 0
@@ -150,17 +146,45 @@ owned pre (c ∷ cs) j e =
     state : (i : ℕ) → i < 0 + length (c .states) → i < length (headTree c .states)
     state i l = let n = length-map (c .states) (λ x. x .ident) in omega arith
 
+module _ (cs : List ContractTree) (st : Stated cs) (clean : Clean [] (fileWords cs)) where
+  module _ (us : List ContractTree) (c : ContractTree) (vs : List ContractTree) (e : cs ≡ us ++ c ∷ vs) where
+    stated-at : Stated (us ++ c ∷ vs)
+    stated-at = subst Stated e st
+
+    clean-of : Clean [] (fileWords (us ++ c ∷ vs))
+    clean-of = subst (λ l. Clean [] (fileWords l)) e clean
+
+    pub contract-at : Admitted (c .ident) (map (λ x. x .ident) us) 8
+    contract-at = contract-admitted us c vs stated-at clean-of
+
+    pub message-at : (ms : List Message) (x : Message) (ns : List Message) → c .messages ≡ ms ++ x ∷ ns → Admitted (x .ident) (map (λ y. y .ident) ms) 16
+    message-at = message-admitted us c vs stated-at clean-of
+
+    pub state-at : (ms : List StateTree) (x : StateTree) (ns : List StateTree) → c .states ≡ ms ++ x ∷ ns → Admitted (x .ident) (map (λ y. y .ident) ms) 16
+    state-at = state-admitted us c vs stated-at clean-of
+
+    small-at : Small (headTree c)
+    unfolding Small
+    small-at = (
+      few (λ x. x .ident) 16 (c .messages) message-at,
+      (let l = length-map (c .states) (λ x. x .ident) in let b = few (λ (x : StateTree). x .ident) 16 (c .states) state-at in omega arith),
+    )
+
+  small : (i : ℕ) → Small (getD (map headTree cs) i noHead)
+  unfolding Small
+  small = each-head Small (omega arith, omega arith) [] cs small-at
+
+  few-contracts : length (map headTree cs) ≤ 8
+  few-contracts = let l = length-map cs headTree in let b = few (λ (x : ContractTree). x .ident) 8 cs contract-at in omega arith
+
 pub ranged : (ws : List Sign) (cs : List ContractTree) → Spells ws cs → Clean [] ws → Ranged (partsOf cs)
 unfolding Small Owned
 ranged ws cs h clean = record {
-  contracts = (let l = length-map cs headTree in let f : length cs ≤ 8 = at-most 8 cs fewer in omega arith);
-  messages = λ i. small [] cs (h .stated) kept i .0;
-  states = λ i. small [] cs (h .stated) kept i .1;
+  contracts = few-contracts cs (h .stated) kept;
+  messages = λ i. small cs (h .stated) kept i .0;
+  states = λ i. small cs (h .stated) kept i .1;
   owners = λ i l. each-at (Owned (map headTree cs)) (numbered moveEntries 0 cs) i noMove (owned [] cs 0 refl) l;
 }
   where
     kept : Clean [] (fileWords cs)
     kept = subst (λ l. Clean [] l) (h .words) clean
-
-    fewer : (pre : List ContractTree) (c : ContractTree) (post : List ContractTree) → cs ≡ pre ++ c ∷ post → length pre < 8
-    fewer pre c post e = few-contracts pre c post (subst Stated e (h .stated)) (subst (λ l. Clean [] (fileWords l)) e kept)

@@ -6,7 +6,10 @@
 --   partsOf cs                 the parts of the contracts cs
 --   parts t                    the parts that a tree of the code holds
 --   Ranged p                   numbers are in range: at most 8 contracts, 16 messages and states; moves of declared states
+--   Once ns                    no name stands twice among ns
+--   Distinct p                 no name stands twice in its family: the contracts, and the messages and the states of each contract
 use Prim.Native.Nat.{ℕ, _+_, _<_, _≤_}
+use mathlib.Core.Path.{_≡_}
 use mathlib.Core.List.{List, [], _∷_, _++_, map}
 use lib.ListN.{length, take, getD}
 use Rattle.words.specs.declared.name.Ident.{Ident}
@@ -76,3 +79,11 @@ pub record Ranged (p : Parts) : Type 0 where
   pub owners : (i : ℕ) → i < length (p .moves)
       → (getD (p .moves) i noMove .contract < length (p .heads))
       × (getD (p .moves) i noMove .state < length (getD (p .heads) (getD (p .moves) i noMove .contract) noHead .states))
+
+abbrev pub Once : List Ident → Type 0
+Once ns = (i j : ℕ) → i < length ns → j < length ns → getD ns i noIdent .name ≡ getD ns j noIdent .name → i ≡ j
+
+pub record Distinct (p : Parts) : Type 0 where
+  pub contracts : Once (map (λ h. h .ident) (p .heads))
+  pub messages : (k : ℕ) → Once (map (λ x. x .ident) (getD (p .heads) k noHead .messages))
+  pub states : (k : ℕ) → Once (getD (p .heads) k noHead .states)
