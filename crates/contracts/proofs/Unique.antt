@@ -117,8 +117,8 @@ agree p distinct ds ds′ ws ws′ n n′ = record {
   message-count = λ k l. n .declared .each k l .message-count ∙ sym (n′ .declared .each k (other k l) .message-count);
   state-count = λ k l. n .declared .each k l .state-count ∙ sym (n′ .declared .each k (other k l) .state-count);
   message = λ k m l b.
-    let w : m < length (headAt (p .heads) k .messages) = omega (arith, n .declared .each k l .message-count) in
-    one-message-as p distinct _ _ _ (n .declared .each k l .messages m w) (n′ .declared .each k (other k l) .messages m w);
+      let w : m < length (headAt (p .heads) k .messages) = omega (arith, n .declared .each k l .message-count) in
+      one-message-as p distinct _ _ _ (n .declared .each k l .messages m w) (n′ .declared .each k (other k l) .messages m w);
 }
   where
     other : (k : ℕ) → k < length ds → k < length ds′
@@ -140,8 +140,8 @@ module _ (ds ds′ : List Declaration) (ws : List Written) (tables tables′ : L
     message-count = ap (λ d. d .«message_count») here ∙ same .message-count k own ∙ sym (ap (λ d. d .«message_count») there);
     state-count = ap (λ d. d .«state_count») here ∙ same .state-count k own ∙ sym (ap (λ d. d .«state_count») there);
     message = λ m b.
-      let w : m < declarationAt ds k .«message_count» = omega (arith, ap (λ d. d .«message_count») here) in
-      ap (λ d. getD (d .messages) m quiet) here ∙ same .message k m own w ∙ sym (ap (λ d. getD (d .messages) m quiet) there);
+        let w : m < declarationAt ds k .«message_count» = omega (arith, ap (λ d. d .«message_count») here) in
+        ap (λ d. getD (d .messages) m quiet) here ∙ same .message k m own w ∙ sym (ap (λ d. getD (d .messages) m quiet) there);
     goes = λ s m u h. made′ .each k away .goes s m u (made .each k l .listed s m u h);
   }
     where

@@ -62,9 +62,9 @@ pub distinct : (ws : List Sign) (cs : List ContractTree) → Spells ws cs → Cl
 distinct ws cs h clean = record {
   contracts = subst Once (sym (idents cs)) (once (λ (c : ContractTree). c .ident) 8 cs (contract-at cs (h .stated) kept));
   messages = each-head (λ t. Once (map (λ x. x .ident) (t .messages))) past [] cs
-    (λ us c vs e. once (λ (x : Message). x .ident) 16 (c .messages) (message-at cs (h .stated) kept us c vs e));
+      (λ us c vs e. once (λ (x : Message). x .ident) 16 (c .messages) (message-at cs (h .stated) kept us c vs e));
   states = each-head (λ t. Once (t .states)) past [] cs
-    (λ us c vs e. once (λ (x : StateTree). x .ident) 16 (c .states) (state-at cs (h .stated) kept us c vs e));
+      (λ us c vs e. once (λ (x : StateTree). x .ident) 16 (c .states) (state-at cs (h .stated) kept us c vs e));
 }
   where
     kept : Clean [] (fileWords cs)
