@@ -42,10 +42,9 @@ use Rattle.contracts.specs.Moves.{Goes}
 use Rattle.contracts.specs.Names.{ContractNamed, headAt, MessageNamed, noMessage, StateNamed}
 use Rattle.contracts.specs.Numbers.{declarationAt, MessageAs, Numbers, PayloadAs, quiet, unwritten, writtenAt, WrittenAs}
 use Rattle.contracts.specs.Paths.{Path, stay, step}
-use Rattle.contracts.specs.Rules.{Along, Among, Reachable, Synchronising, Unreached, Cycling}
+use Rattle.contracts.specs.Rules.{Along, Among, Unreached, Cycling}
 use Rattle.contracts.specs.Tables.{messageAt, messages, states, tableAt}
-use Rattle.contracts.specs.Transfers.{Lawful, Sendable, sends, SilentEnd}
-use Rattle.contracts.specs.Written.{Holds}
+use Rattle.contracts.specs.Transfers.{Sendable, sends, SilentEnd}
 use Rattle.contracts.proofs.Ranges.{all-declared}
 
 -- a name of a family has one number
