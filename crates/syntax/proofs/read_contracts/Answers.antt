@@ -12,7 +12,7 @@ pub returns : goal.returns
 returns c =
     let text = c.args.text.now in
     let r = c.parsed.result in
-    let a = c.in-ok-reader.ensures.answer in
+    let a = c.in_ok-reader.ensures.answer in
     let e : outcome r ≡ run ask Contracts (start (parts_of [])) (words_of text) = c.parsed.ensures ∙ ap (run ask Contracts (start (parts_of []))) a.1 in
     record {
       large = λ h. let l = a.0 in absurd (omega arith);

@@ -7,13 +7,13 @@ use Rattle.words.proofs.keyword.first_spelled.Goals as goal
 pub loop-keyword-preserved : goal.loop-keyword-preserved
 loop-keyword-preserved c =
     let b = c.args.bytes.now in
-    let e : bytes_eq b (spelling (here c.args.keywords.now b c.loop-keyword.keyword-index)) ≡ false = ap (bytes_eq b) (sym c.spelling.ensures) ∙ sym c.if-same-bytes.ensures in
+    let e : bytes_eq b (spelling (here c.args.keywords.now b c.loop-keyword.keyword-index)) ≡ false = ap (bytes_eq b) (sym c.spelling.ensures) ∙ sym c.if-same_bytes.ensures in
     c.loop-keyword.invariant ∙ spelled_later c.args.keywords.now b c.loop-keyword.keyword-index c.loop-keyword-test.true e
 
-pub returns-then-same-bytes : goal.returns-then-same-bytes
-returns-then-same-bytes c =
+pub returns-then-same_bytes : goal.returns-then-same_bytes
+returns-then-same_bytes c =
     let b = c.args.bytes.now in
-    let e : bytes_eq b (spelling (here c.args.keywords.now b c.loop-keyword.keyword-index)) ≡ true = ap (bytes_eq b) (sym c.spelling.ensures) ∙ sym c.if-same-bytes.ensures in
+    let e : bytes_eq b (spelling (here c.args.keywords.now b c.loop-keyword.keyword-index)) ≡ true = ap (bytes_eq b) (sym c.spelling.ensures) ∙ sym c.if-same_bytes.ensures in
     sym (c.loop-keyword.invariant ∙ spelled_here c.args.keywords.now b c.loop-keyword.keyword-index c.loop-keyword-test.true e)
 
 pub returns : goal.returns

@@ -8,27 +8,27 @@ use Rattle.carriers.specs.Tabled.{close_refused, close_done}
 use Rattle.carriers.specs.Copies.{few-queued}
 use Rattle.carriers.proofs.copying.Copying.close_box.Goals as goal
 
-pub returns-in-err-give-back : goal.returns-in-err-give-back
-returns-in-err-give-back c =
+pub returns-in_err-give_back : goal.returns-in_err-give_back
+returns-in_err-give_back c =
     let s = c.args.self.now in
     let q = queued s.rows.counts s.rows.firsts s.rows.bytes in
-    let p = err_from_is_err_and c.from-residual.result c.from-residual.ensures.1 in
-    let refused = c.in-err-give-back.ensures.done in
+    let p = err_from_is_err_and c.from_residual.result c.from_residual.ensures.1 in
+    let refused = c.in_err-give_back.ensures.done in
     rw (p.1, p.2)
     (record {
       done = (
-        close_refused s.limits.limits q s.limits.sizes (few-queued s.limits s.rows s.few) c.args.b c.in-err-give-back.field-0.0 refused.0,
+        close_refused s.limits.limits q s.limits.sizes (few-queued s.limits s.rows s.few) c.args.b c.in_err-give_back.field-0.0 refused.0,
         ap (λ ls. boxes_from ls q) refused.1,
       );
     })
 
-pub invariant-of-self-2 : goal.invariant-of-self-2
-invariant-of-self-2 c =
+pub invariant_of-self-2 : goal.invariant_of-self-2
+invariant_of-self-2 c =
     let s = c.args.self.now in
     let b = c.args.b in
-    let l = c.give-back.new.self in
+    let l = c.give_back.new.self in
     let r = c.clear.new.self in
-    let d = c.in-ok-give-back.ensures.done in
+    let d = c.in_ok-give_back.ensures.done in
     let inside : b < length s.rows.counts = omega (arith, d.numbered, s.rows.sizes.0) in
     let none : get_or r.counts b 0 ≡ 0 = ap (λ ns. get_or ns b 0) c.clear.ensures.counts ∙ get_or-set_same s.rows.counts b 0 0 inside in (
       whole_returned s.limits.limits l.limits s.limits.spare l.spare b s.limits.sizes d ∙ s.pool,
@@ -44,9 +44,9 @@ returns c =
     let s = c.args.self.now in
     let r = c.clear.new.self in
     let q = queued s.rows.counts s.rows.firsts s.rows.bytes in
-    let d = c.in-ok-give-back.ensures.done in
+    let d = c.in_ok-give_back.ensures.done in
     record {
       done =
-          close_done s.limits.limits q s.limits.sizes (few-queued s.limits s.rows s.few) c.args.b s.limits.spare c.give-back.new.self.limits c.give-back.new.self.spare
+          close_done s.limits.limits q s.limits.sizes (few-queued s.limits s.rows s.few) c.args.b s.limits.spare c.give_back.new.self.limits c.give_back.new.self.spare
           (queued r.counts r.firsts r.bytes) d (λ a _ n. c.clear.ensures.others a n);
     }

@@ -3,8 +3,8 @@ use Rattle.std.proofs.lemmas.List.{length-set}
 use Rattle.carriers.proofs.Drawing.{low-set, allotted-set}
 use Rattle.carriers.proofs.limits.Limits.draw.Goals as goal
 
-pub invariant-of-self : goal.invariant-of-self
-invariant-of-self c =
+pub invariant_of-self : goal.invariant_of-self
+invariant_of-self c =
     let s = c.args.self.now in
     let numbered : c.args.b < 64 = omega arith in
     let drawn = Some c.args.limit in (

@@ -4,16 +4,16 @@ use Rattle.carriers.specs.Limits.{limit_in}
 use Rattle.carriers.proofs.Drawing.{low-set, allotted-set, limit_le_allotted}
 use Rattle.carriers.proofs.limits.Limits.give_back.Goals as goal
 
-pub overflow-add-self : goal.overflow-add-self
-overflow-add-self c =
+pub overflow_add-self : goal.overflow_add-self
+overflow_add-self c =
     let s = c.args.self.now in
-    let found = c.in-ok-limit.ensures.answer in
+    let found = c.in_ok-limit.ensures.answer in
     omega (arith, s.pool, limit_le_allotted s.limits c.args.b s.sizes found.0, ap limit_in found.1)
 
-pub invariant-of-self : goal.invariant-of-self
-invariant-of-self c =
+pub invariant_of-self : goal.invariant_of-self
+invariant_of-self c =
     let s = c.args.self.now in
-    let found = c.in-ok-limit.ensures.answer in (
+    let found = c.in_ok-limit.ensures.answer in (
       length-set _ _ _ ∙ s.sizes,
       (
         low-set s.limits c.args.b s.sizes found.0 None s.low (omega arith),

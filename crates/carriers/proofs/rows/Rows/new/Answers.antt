@@ -3,8 +3,8 @@ use Rattle.carriers.specs.Rows.{slot_byte}
 use Rattle.carriers.proofs.Drawing.{get_d_equal}
 use Rattle.carriers.proofs.rows.Rows.new.Goals as goal
 
-pub invariant-of-result : goal.invariant-of-result
-invariant-of-result c = (
+pub invariant_of-result : goal.invariant_of-result
+invariant_of-result c = (
   (refl, refl, refl),
   (
     (λ b. omega (arith, get_d_equal {X = ℕ} 64 b 0)),

@@ -5,8 +5,8 @@ use Rattle.carriers.specs.Bytes.{payload_of_byte, slot_byte_of, legible_written}
 use Rattle.carriers.specs.Queues.{few-set, spot_inside, queued-push, queued_push_other}
 use Rattle.carriers.proofs.rows.Rows.push.Goals as goal
 
-pub invariant-of-self : goal.invariant-of-self
-invariant-of-self c =
+pub invariant_of-self : goal.invariant_of-self
+invariant_of-self c =
     let s = c.args.self.now in
     let b = c.args.b in
     let inside =

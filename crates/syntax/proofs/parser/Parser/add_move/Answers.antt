@@ -12,8 +12,8 @@ returns c =
     let e = (c.push.ensures.room c.requires).1 in
     record {
       value = added (progress p) (row_items c.push.new.self) _ _ c.args.step e
-          (ap length c.as-slice-contract.ensures ∙ sym (length-map (row_items p.heads) declares))
-          (c.saturating-sub-state.ensures ∙ ap (λ l. length l - 1) c.as-slice.ensures);
+          (ap length c.as_slice-contract.ensures ∙ sym (length-map (row_items p.heads) declares))
+          (c.saturating_sub-state.ensures ∙ ap (λ l. length l - 1) c.as_slice.ensures);
       weight = heavier (row_items p.moves) (row_items c.push.new.self) _ (unread p) e;
       feed = search rules;
       heads = search rules;
