@@ -1,13 +1,15 @@
-use Rattle.std.proofs.Common.{rules, ◌≡◌, ◌+◌, ◌<◌, ◌≤◌, [], length, Ok, OnOk, ℕ, ◌-◌, ◌*◌, ◌/◌, ◌%◌, Bool, true, false, nat_eq, nat_lt, List, ◌∷◌, ◌++◌, slice_index_or, slice_set, bit_and, bit_or, Fits, w8, w32, w64, Bor, MutBor}
-use Rattle.syntax.specs.Rows.{row_items}
-use Rattle.syntax.specs.Table.{Goes}
+use Rattle.std.proofs.Common.{◌≡◌, ◌∙◌, rules}
+use Rattle.syntax.specs.Machine.{reading}
 use Rattle.syntax.specs.Machine as q
-use Rattle.syntax.specs.Picks.{left}
-use Rattle.syntax.specs.Trees.{parts_of, parts}
-use Rattle.syntax.specs.Parsing.{progress, parts_in, reads, unread}
-use Rattle.syntax.specs.Parsing.{weight as weigh}
+use Rattle.syntax.specs.Parsing.{progress}
 use Rattle.syntax.proofs.parser.Parser.step.Goals as goal
 
--- src/parser.rt:95:22
+-- the mark and the arrow were read, so what the name does to the text is what it does to the move
 pub returns-in_err-target-clause-goes : goal.returns-in_err-target-clause-goes
-returns-in_err-target-clause-goes c = ?
+returns-in_err-target-clause-goes c =
+    let p = progress c.args.self.now in
+    let n = c.args.message in
+    let way = c.in_ok-mark.mark in
+    let marked : reading (q.move p n) c.args.self.now.feed ≡ reading (q.marked p n way) c.way.new.self = search rules in
+    let aiming : reading (q.marked p n way) c.way.new.self ≡ reading (q.aiming p n way) c.mark.new.self = search rules in
+    search (rules, marked ∙ aiming)
