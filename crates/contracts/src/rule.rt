@@ -21,9 +21,9 @@ pub trait Rule {
 /// The first contract that breaks the rule, with its first state or message that does.
 pub(crate) fn earliest<R: Rule>(rule: &R, tables: &[Table]) -> Option<(usize, usize)>
     ensures { MatchOption result
-        ((k : ℕ) → k < length tables.now → keeps tables.now k)
-        (λ v. (v.0 < length tables.now) × First (breaks tables.now v.0) v.1
-        × ((k : ℕ) → k < v.0 → keeps tables.now k)) }
+        ((k : ℕ) → k < length tables.now → R.keeps tables.now k)
+        (λ v. (v.0 < length tables.now) × First (R.breaks tables.now v.0) v.1
+        × ((k : ℕ) → k < v.0 → R.keeps tables.now k)) }
 {
     for k in 0..tables.len() {
         if let Some(i) = rule.first(tables, k) {

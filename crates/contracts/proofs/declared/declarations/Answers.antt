@@ -16,10 +16,10 @@ declaration-requires c =
       states = few-states c.args.heads.now c.loop-head.head-index c.requires;
     }
 
-pub returns-in-err-next : goal.returns-in-err-next
-returns-in-err-next c =
-    let h = heads_missing c.args.heads.now c.loop-head.head-index _ c.loop-head-test.true c.in-err-next.ensures
-    in let p = err_from_is_err_and c.from-residual.result c.from-residual.ensures.1 in rw (p.1, p.2) h
+pub returns-in_err-next : goal.returns-in_err-next
+returns-in_err-next c =
+    let h = heads_missing c.args.heads.now c.loop-head.head-index _ c.loop-head-test.true c.in_err-next.ensures
+    in let p = err_from_is_err_and c.from_residual.result c.from_residual.ensures.1 in rw (p.1, p.2) h
 
 pub loop-head-preserved : goal.loop-head-preserved
 loop-head-preserved c =
@@ -27,7 +27,7 @@ loop-head-preserved c =
     in let room : length (row_items c.loop-head.all) < 8 = omega arith
     in pushed (λ k d. DeclaredAs (map declares c.args.heads.now) (head_at (map declares c.args.heads.now) k) d) undeclared _ _ _ _
     c.loop-head.invariant (c.push.ensures.room room).1
-    (head_declares (λ h. DeclaredAs (map declares c.args.heads.now) h c.in-ok-next.next) c.args.heads.now c.loop-head.head-index c.in-ok-next.ensures)
+    (head_declares (λ h. DeclaredAs (map declares c.args.heads.now) h c.in_ok-next.next) c.args.heads.now c.loop-head.head-index c.in_ok-next.ensures)
 
 pub returns : goal.returns
 returns c =

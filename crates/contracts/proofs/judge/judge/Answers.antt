@@ -6,24 +6,24 @@ use Rattle.contracts.proofs.Judging.{same_parts, numbers-at, resolved, within}
 use Rattle.contracts.proofs.judge.judge.Goals as goal
 
 pub returns-in-Err : goal.returns-in-Err
-returns-in-Err c = undeclared c.in-Err.ident c.in-Err.ensures (ap f.Undeclared c.span-of.ensures)
+returns-in-Err c = undeclared c.in-Err.ident c.in-Err.ensures (ap f.Undeclared c.span_of.ensures)
 
 pub accept-requires : goal.accept-requires
 accept-requires c =
-    resolved (parts c.args.tree.now) c.as-slice.result.now c.as-slice-2.result.now
-    (numbers-at (parts c.args.tree.now) _ c.as-slice.result.now _ c.as-slice-2.result.now c.as-slice.ensures c.as-slice-2.ensures c.in-Ok.ensures)
+    resolved (parts c.args.tree.now) c.as_slice.result.now c.as_slice-2.result.now
+    (numbers-at (parts c.args.tree.now) _ c.as_slice.result.now _ c.as_slice-2.result.now c.as_slice.ensures c.as_slice-2.ensures c.in-Ok.ensures)
     c.requires.ranged c.requires.inhabited
 
-pub fault-of-requires : goal.fault-of-requires
-fault-of-requires c =
+pub fault_of-requires : goal.fault_of-requires
+fault_of-requires c =
     subst (λ (q : Parts). Within q c.in-Err-accept.broken) (sym (same_parts c.args.tree.now _ _ c.heads.ensures c.moves.ensures))
-    (within (parts c.args.tree.now) c.as-slice.result.now c.as-slice-2.result.now
-    (numbers-at (parts c.args.tree.now) _ c.as-slice.result.now _ c.as-slice-2.result.now c.as-slice.ensures c.as-slice-2.ensures c.in-Ok.ensures)
+    (within (parts c.args.tree.now) c.as_slice.result.now c.as_slice-2.result.now
+    (numbers-at (parts c.args.tree.now) _ c.as_slice.result.now _ c.as_slice-2.result.now c.as_slice.ensures c.as_slice-2.ensures c.in-Ok.ensures)
     c.in-Err-accept.broken c.in-Err-accept.ensures)
 
 pub returns-in-Err-accept : goal.returns-in-Err-accept
 returns-in-Err-accept c =
-    broken c.as-slice.result.now c.as-slice-2.result.now c.in-Err-accept.broken
-    (numbers-at (parts c.args.tree.now) _ c.as-slice.result.now _ c.as-slice-2.result.now c.as-slice.ensures c.as-slice-2.ensures c.in-Ok.ensures)
+    broken c.as_slice.result.now c.as_slice-2.result.now c.in-Err-accept.broken
+    (numbers-at (parts c.args.tree.now) _ c.as_slice.result.now _ c.as_slice-2.result.now c.as_slice.ensures c.as_slice-2.ensures c.in-Ok.ensures)
     c.in-Err-accept.ensures
-    (c.fault-of.ensures ∙ ap (λ q. fault_from q c.in-Err-accept.broken) (same_parts c.args.tree.now _ _ c.heads.ensures c.moves.ensures))
+    (c.fault_of.ensures ∙ ap (λ q. fault_from q c.in-Err-accept.broken) (same_parts c.args.tree.now _ _ c.heads.ensures c.moves.ensures))

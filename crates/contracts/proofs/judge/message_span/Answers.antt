@@ -7,8 +7,8 @@ pub bounds-messages-m : goal.bounds-messages-m
 bounds-messages-m c =
     subst (λ (xs : List Message). c.args.m < length xs) (sym (messages-at c.args.heads.now c.args.contract _ c.messages.ensures)) c.requires.message
 
-pub offset-bounds-messages-m : goal.offset-bounds-messages-m
-offset-bounds-messages-m c =
+pub offset_bounds-messages-m : goal.offset_bounds-messages-m
+offset_bounds-messages-m c =
     let h : c.args.m < length c.messages.result.now =
     subst (λ (xs : List Message). c.args.m < length xs) (sym (messages-at c.args.heads.now c.args.contract _ c.messages.ensures)) c.requires.message
     in search (rules, h)

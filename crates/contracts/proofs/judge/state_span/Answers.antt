@@ -7,8 +7,8 @@ pub bounds-states-s : goal.bounds-states-s
 bounds-states-s c =
     subst (λ (xs : List Ident). c.args.s < length xs) (sym (states-at c.args.heads.now c.args.contract _ c.states.ensures)) c.requires.state
 
-pub offset-bounds-states-s : goal.offset-bounds-states-s
-offset-bounds-states-s c =
+pub offset_bounds-states-s : goal.offset_bounds-states-s
+offset_bounds-states-s c =
     let h : c.args.s < length c.states.result.now =
     subst (λ (xs : List Ident). c.args.s < length xs) (sym (states-at c.args.heads.now c.args.contract _ c.states.ensures)) c.requires.state
     in search (rules, h)

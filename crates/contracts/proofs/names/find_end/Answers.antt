@@ -2,7 +2,7 @@ use Rattle.std.proofs.Common.{arith, rules, below_more}
 use Rattle.std.proofs.lemmas.List.{length-map}
 use Rattle.contracts.proofs.Lookups.{contract-named, contract_read, state-named, state_read}
 use Rattle.contracts.proofs.names.find_end.Goals as goal
-use Rattle.contracts.proofs.names.find_end.Goals.{then-same+in-default, else_same}
+use Rattle.contracts.proofs.names.find_end.Goals.{then-same+in_default, else-same}
 
 pub returns-in-Some : goal.returns-in-Some
 returns-in-Some c = (
@@ -13,8 +13,8 @@ returns-in-Some c = (
 pub loop-k-preserved : goal.loop-k-preserved
 loop-k-preserved c = below_more _ _ c.loop-k.invariant
     (elim c.if-same.branch [
-      | then-same+in-default w ↦ λ u h. w.in-default.ensures u (state_read c.args.heads.now c.loop-k.k _ _ _ w.states.ensures h.1)
-      | else_same w ↦ λ u h. let e = contract_read _ _ _ h.0 in search rules
+      | then-same+in_default w ↦ λ u h. w.in_default.ensures u (state_read c.args.heads.now c.loop-k.k _ _ _ w.states.ensures h.1)
+      | else-same w ↦ λ u h. let e = contract_read _ _ _ h.0 in search rules
     ])
 
 pub returns : goal.returns

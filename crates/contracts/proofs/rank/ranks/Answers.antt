@@ -10,8 +10,8 @@ use Rattle.contracts.proofs.rank.ranks.Goals as goal
 pub loop-s-init : goal.loop-s-init
 loop-s-init c = (refl, λ s. (s, subst (Path _ s s) (sym (filled {A = ℕ} 16 s 0)) stay))
 
-pub overflow-add-rank : goal.overflow-add-rank
-overflow-add-rank c =
+pub overflow_add-rank : goal.overflow_add-rank
+overflow_add-rank c =
     let low : get_or c.loop-s.rank c.in-Some.u 0 < 16 = short c.args.t.now (Some c.args.d) c.requires.acyclic (c.loop-s.invariant.1 c.in-Some.u).1 in
     search rules
 
@@ -32,4 +32,4 @@ loop-s-preserved c = (length-set _ _ _ ∙ c.loop-s.invariant.0, turned c)
 
 pub returns : goal.returns
 returns c s =
-    (λ u k p. ranked (OneWay c.args.t.now c.args.d) (λ x. get_or c.loop-s.rank x 0) c.in-default.ensures p, c.loop-s.invariant.1 s)
+    (λ u k p. ranked (OneWay c.args.t.now c.args.d) (λ x. get_or c.loop-s.rank x 0) c.in_default.ensures p, c.loop-s.invariant.1 s)

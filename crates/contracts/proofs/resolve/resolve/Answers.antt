@@ -7,8 +7,8 @@ use Rattle.contracts.specs.Numbers.{Numbers}
 use Rattle.contracts.proofs.Numbered.{row_length, tree_parts}
 use Rattle.contracts.proofs.resolve.resolve.Goals as goal
 
-pub by-numbers-requires : goal.by-numbers-requires
-by-numbers-requires c =
+pub by_numbers-requires : goal.by_numbers-requires
+by_numbers-requires c =
     record {
       ranged = subst (λ (p : Parts). Ranged p) (sym (tree_parts c.args.tree.now _ _ c.heads-heads.ensures c.moves-entries.ensures)) c.requires;
       few = row_length c.args.tree.now.moves _ c.moves-entries.ensures;
@@ -21,6 +21,6 @@ returns-in-Some c =
 
 pub returns-in-None : goal.returns-in-None
 returns-in-None c =
-    subst (λ (p : Parts). MatchResult c.by-numbers.result (λ n. Numbers p (row_items n.declarations) (row_items n.moves)) (FirstUnresolved p))
+    subst (λ (p : Parts). MatchResult c.by_numbers.result (λ n. Numbers p (row_items n.declarations) (row_items n.moves)) (FirstUnresolved p))
     (tree_parts c.args.tree.now _ _ c.heads-heads.ensures c.moves-entries.ensures)
-    (MatchResult-weaker c.by-numbers.result c.by-numbers.ensures (λ n h. h) (λ d h. absurd (c.in-None.ensures d h)))
+    (MatchResult-weaker c.by_numbers.result c.by_numbers.ensures (λ n h. h) (λ d h. absurd (c.in-None.ensures d h)))

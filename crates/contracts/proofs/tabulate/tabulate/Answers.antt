@@ -8,14 +8,12 @@ fill-rows-requires c = record {
   once = c.requires.once;
 }
 
-pub invariant-of-result : goal.invariant-of-result
-invariant-of-result c = (
-  c.requires.resolved.few-messages c.args.c c.requires.within,
-  (
-    c.requires.resolved.few-states c.args.c c.requires.within,
-    (λ v. declared-at c.args.declarations.now c.args.moves.now c.requires.resolved c.args.c v.from v.by v.to (c.fill-rows.ensures.listed v.from v.by v.to v.goes), tt),
-  ),
-)
+pub invariant_of-result : goal.invariant_of-result
+invariant_of-result c = record {
+  few_messages = c.requires.resolved.few-messages c.args.c c.requires.within;
+  few_states = c.requires.resolved.few-states c.args.c c.requires.within;
+  declared = λ v. declared-at c.args.declarations.now c.args.moves.now c.requires.resolved c.args.c v.from v.by v.to (c.fill-rows.ensures.listed v.from v.by v.to v.goes);
+}
 
 pub returns : goal.returns
 returns c = record { declaration = refl; listed = c.fill-rows.ensures.listed; goes = c.fill-rows.ensures.goes }

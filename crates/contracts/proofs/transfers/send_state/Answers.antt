@@ -13,5 +13,5 @@ returns-then-c-tables c = (
 
 pub returns : goal.returns
 returns c =
-    decides_send_state c.args.tables.now c.args.role c.args.c c.args.s c.index-tables-c.result c.sent-mark.result c.may-send.result
-    c.if-c-tables.false (get_or_read c.args.tables.now c.args.c _ c.if-c-tables.false c.index-tables-c.is blank) c.sent-mark.ensures c.may-send.ensures
+    decides_send_state c.args.tables.now c.args.role c.args.c c.args.s c.index-tables-c.result c.sent_mark.result c.may_send.result
+    c.if-c-tables.false (get_or_read c.args.tables.now c.args.c _ c.if-c-tables.false c.index-tables-c.is blank) c.sent_mark.ensures c.may_send.ensures

@@ -9,9 +9,9 @@ use Rattle.contracts.proofs.undeclared.in_heads.Goals as goal
 
 pub loop-head-preserved : goal.loop-head-preserved
 loop-head-preserved c =
-    let P : List Message → Type 0 = λ ms. FirstOrNone (MessagesMissing (map declares c.args.heads.now) ms) c.in-messages.result
+    let P : List Message → Type 0 = λ ms. FirstOrNone (MessagesMissing (map declares c.args.heads.now) ms) c.in_messages.result
     in first_more _ _ _ _ _ c.loop-head.invariant
-    (subst P (messages-at c.args.heads.now c.loop-head.head-index _ c.messages.ensures) c.in-messages.ensures)
+    (subst P (messages-at c.args.heads.now c.loop-head.head-index _ c.messages.ensures) c.in_messages.ensures)
     c.earlier-first.ensures
 
 pub returns : goal.returns

@@ -14,4 +14,4 @@ loop-u-preserved c =
     (length-set _ _ _ ∙ c.loop-u.invariant.0, found_more (Along c.args.t.now c.args.w) c.args.from c.loop-u.seen c.loop-u.invariant.1 s c.in-Some.u src e)
 
 pub returns : goal.returns
-returns c u = (c.loop-u.invariant.1 u, found_all (Along c.args.t.now c.args.w) c.args.from c.loop-u.seen c.in-default.ensures)
+returns c u = (c.loop-u.invariant.1 u, found_all (Along c.args.t.now c.args.w) c.args.from c.loop-u.seen c.in_default.ensures)

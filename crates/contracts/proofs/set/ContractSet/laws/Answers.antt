@@ -12,7 +12,7 @@ returns c = record {
   positional = λ k l. (each-ruled c.args.self.now k l).positional;
   reachable = λ k l. (each-ruled c.args.self.now k l).reachable;
   synchronising = λ k l. (each-ruled c.args.self.now k l).synchronising;
-  rows-within-bound = λ k l d b longest s u n p. longest.0 n (s, u, p);
-  bounds-together = each-together c.args.self.now;
+  rows_within_bound = λ k l d b longest s u n p. longest.0 n (s, u, p);
+  bounds_together = each-together c.args.self.now;
   send_states = λ k l. send_states (tables_in c.args.self.now) (table_at (tables_in c.args.self.now) k) (c.args.self.now.lawful k l);
 }

@@ -2,8 +2,8 @@ use Rattle.std.proofs.Common.{◌<◌, arith, rules}
 use Rattle.contracts.proofs.Viewed.{count_is, table_is}
 use Rattle.contracts.proofs.set.ContractSet.table.Goals as goal
 
-pub offset-bounds-self-k : goal.offset-bounds-self-k
-offset-bounds-self-k c =
+pub offset_bounds-self-k : goal.offset_bounds-self-k
+offset_bounds-self-k c =
     let small : c.args.k < 8 = omega (arith, count_is c.args.self.now, c.args.self.now.few, c.requires) in
     search rules
 

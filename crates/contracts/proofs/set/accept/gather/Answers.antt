@@ -4,7 +4,7 @@ use Rattle.contracts.specs.Transfers.{Lawful}
 use Rattle.contracts.proofs.set.accept.gather.Goals as goal
 
 pub returns-in-Some-earliest-2 : goal.returns-in-Some-earliest-2
-returns-in-Some-earliest-2 c = (c.in-default.ensures, c.in-default-earliest.ensures, c.in-Some-earliest-2.ensures)
+returns-in-Some-earliest-2 c = (c.in_default.ensures, c.in_default-earliest.ensures, c.in-Some-earliest-2.ensures)
 
 pub build-contracts-requires : goal.build-contracts-requires
 build-contracts-requires c = record {
@@ -13,19 +13,21 @@ build-contracts-requires c = record {
   ruled = λ k l. record {
     inhabited = c.requires.inhabited k l;
     positional = c.requires.positional k l;
-    reachable = c.in-default.ensures k l;
-    synchronising = c.in-default-earliest.ensures k l;
+    reachable = c.in_default.ensures k l;
+    synchronising = c.in_default-earliest.ensures k l;
   };
 }
 
-pub invariant-of-result : goal.invariant-of-result
-invariant-of-result c = (
-  c.build-contracts.ensures.full,
-  (c.requires.some, (c.requires.few, (subst (λ ts. Each (Lawful ts) ts) (sym c.build-contracts.ensures.tables) c.in-default-earliest-2.ensures, tt))),
-)
+pub invariant_of-result : goal.invariant_of-result
+invariant_of-result c = record {
+  full = c.build-contracts.ensures.full;
+  some = c.requires.some;
+  few = c.requires.few;
+  lawful = subst (λ ts. Each (Lawful ts) ts) (sym c.build-contracts.ensures.tables) c.in_default-earliest-2.ensures;
+}
 
 pub returns : goal.returns
 returns c = (
   c.build-contracts.ensures.tables,
-  record { reachable = c.in-default.ensures; synchronising = c.in-default-earliest.ensures; lawful = c.in-default-earliest-2.ensures },
+  record { reachable = c.in_default.ensures; synchronising = c.in_default-earliest.ensures; lawful = c.in_default-earliest-2.ensures },
 )

@@ -7,5 +7,5 @@ use Rattle.contracts.proofs.states.AllReachableRule.first.Goals as goal
 
 pub returns : goal.returns
 returns c =
-    subst (λ t. MatchOption c.first-unreached.result (Reachable t) (First (Unreached t)))
-    (get_or_read c.args.tables.now c.args.k _ c.requires c.index-tables-k.is blank) c.first-unreached.ensures
+    subst (λ t. MatchOption c.first_unreached.result (Reachable t) (First (Unreached t)))
+    (get_or_read c.args.tables.now c.args.k _ c.requires c.index-tables-k.is blank) c.first_unreached.ensures

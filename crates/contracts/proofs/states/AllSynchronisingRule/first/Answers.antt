@@ -7,5 +7,5 @@ use Rattle.contracts.proofs.states.AllSynchronisingRule.first.Goals as goal
 
 pub returns : goal.returns
 returns c =
-    subst (λ t. MatchOption c.first-cycling.result (Synchronising t) (First (Cycling t)))
-    (get_or_read c.args.tables.now c.args.k _ c.requires c.index-tables-k.is blank) c.first-cycling.ensures
+    subst (λ t. MatchOption c.first_cycling.result (Synchronising t) (First (Cycling t)))
+    (get_or_read c.args.tables.now c.args.k _ c.requires c.index-tables-k.is blank) c.first_cycling.ensures

@@ -7,5 +7,5 @@ use Rattle.contracts.proofs.transfers.AllLawfulRule.first.Goals as goal
 
 pub returns : goal.returns
 returns c =
-    subst (λ t. MatchOption c.first-silent-end.result (Lawful c.args.tables.now t) (First (SilentEnd c.args.tables.now t)))
-    (get_or_read c.args.tables.now c.args.k _ c.requires c.index-tables-k.is blank) c.first-silent-end.ensures
+    subst (λ t. MatchOption c.first_silent_end.result (Lawful c.args.tables.now t) (First (SilentEnd c.args.tables.now t)))
+    (get_or_read c.args.tables.now c.args.k _ c.requires c.index-tables-k.is blank) c.first_silent_end.ensures
