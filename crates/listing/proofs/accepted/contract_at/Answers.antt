@@ -5,10 +5,10 @@ pub returns : goal.returns
 returns c =
     IfOk-weaker c.contract.result _ _
     (λ s e. record {
-      out_bound = c.in-Some-out-bound.out_bound;
-      in_bound = c.in-Some-in-bound.in_bound;
-      longest_out = c.in-Some-out-bound.ensures.answer.1;
-      longest_in = c.in-Some-in-bound.ensures.answer.1;
+      out_bound = c.in-Some-out_bound.out_bound;
+      in_bound = c.in-Some-in_bound.in_bound;
+      longest_out = c.in-Some-out_bound.ensures.answer.1;
+      longest_in = c.in-Some-in_bound.ensures.answer.1;
       says = e c.in-Some.ensures.answer.1;
     })
     c.contract.ensures

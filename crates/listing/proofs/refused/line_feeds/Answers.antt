@@ -10,10 +10,10 @@ loop-b-preserved c =
     elim c.if-b-eq10.branch [
       | then-b-eq10 w ↦
           let e = count_by_more_yes is_line_feed c.args.before.now c.loop-b.b-index 0 c.loop-b-test.true (eq-eqb _ 10 w.if-b-eq10.true) in
-          (omega (arith, e, w.count_is, c.loop-b.invariant.0), omega (arith, w.count_is, c.loop-b.invariant.1))
+          (omega (arith, e, w.count-is, c.loop-b.invariant.0), omega (arith, w.count-is, c.loop-b.invariant.1))
       | else-b-eq10 w ↦
           let e = count_by_more_no is_line_feed c.args.before.now c.loop-b.b-index 0 c.loop-b-test.true (ne_eqb _ 10 w.if-b-eq10.false) in
-          (omega (arith, e, w.count_is, c.loop-b.invariant.0), omega (arith, w.count_is, c.loop-b.invariant.1))
+          (omega (arith, e, w.count-is, c.loop-b.invariant.0), omega (arith, w.count-is, c.loop-b.invariant.1))
     ]
 
 pub returns : goal.returns
