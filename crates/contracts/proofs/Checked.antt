@@ -6,7 +6,7 @@
 --   checked         a judgement of what was read is the answer to the text
 --   never_unread    of a text that spells a file a file is read
 --   accepted_of     a text that spells a file which keeps every rule is accepted
-use Rattle.std.proofs.Common.{◌≡◌, ℕ, zero, suc, ◌<◌, ◌≤◌, true, List, [], ◌∷◌, map, length, is_ok, Ok, Err, Result, sym, refl, ap, ◌∙◌, subst, inl, inr, arith}
+use Rattle.std.proofs.Common.{◌≡◌, ℕ, zero, suc, ◌<◌, ◌≤◌, true, List, [], ◌∷◌, map, length, is_ok, Ok, Err, Result, sym, refl, ap, subst, inl, inr, arith}
 use lib.ListN.{length-map}
 use Rattle.std.proofs.lemmas.Bool.{cases_lt}
 use Rattle.words.specs.declared.fault.Source.TheVariants.{Contracts}

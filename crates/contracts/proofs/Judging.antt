@@ -3,7 +3,7 @@
 --   numbers-at     numbers, as the code reads them
 --   resolved       a file by numbers is one that rules 9 to 14 can be tried on
 --   within         what breaks a rule is a part of the file
-use Rattle.std.proofs.Common.{◌≡◌, ℕ, ◌<◌, List, map, length, get_or, sym, refl, ap, ◌∙◌, subst, arith}
+use Rattle.std.proofs.Common.{◌≡◌, ℕ, ◌<◌, List, length, refl, ap, arith}
 use Rattle.syntax.specs.declared.tree.Head.{Head}
 use Rattle.syntax.specs.declared.tree.MoveEntry.{MoveEntry}
 use Rattle.syntax.specs.declared.tree.Tree.{Tree}

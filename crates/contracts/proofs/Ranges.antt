@@ -11,7 +11,7 @@ use Rattle.syntax.specs.declared.tree.Payload.{Payload as PayloadTree}
 use Rattle.syntax.specs.declared.tree.Payload.TheVariants as t
 use Rattle.syntax.specs.Trees.{HeadTree, no_move, Parts, Ranged}
 use Rattle.contracts.specs.declared.declaration.Payload.{Payload}
-use Rattle.contracts.specs.declared.declaration.Payload.TheVariants.{Nothing, Block, End}
+use Rattle.contracts.specs.declared.declaration.Payload.TheVariants.{End}
 use Rattle.contracts.specs.declared.declaration.Declaration.{Declaration}
 use Rattle.contracts.specs.declared.declaration.Written.{Written}
 use Rattle.contracts.specs.Names.{head_at, Unresolved}

@@ -1,4 +1,6 @@
 // The rules on contracts, and the sets of contracts that keep them.
+#![tactic(auto)]
+
 mod broken;
 pub mod check;
 mod contract;

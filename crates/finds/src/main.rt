@@ -1,4 +1,6 @@
 // `finds check CONTRACTS` tries a contract file; `finds help` says how to call the program.
+#![tactic(auto)]
+
 use anyhow::anyhow;
 use contracts::check::check;
 use listing::accepted::list_contracts;

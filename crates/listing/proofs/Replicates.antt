@@ -1,5 +1,5 @@
 -- One more of the same at the end.
-use Rattle.std.proofs.Common.{◌≡◌, ℕ, zero, suc, ◌+◌, List, [], ◌∷◌, ◌++◌, replicate, refl, ap, add-one}
+use Rattle.std.proofs.Common.{◌≡◌, ℕ, zero, suc, ◌+◌, [], ◌∷◌, ◌++◌, replicate, refl, ap, add-one}
 
 one_more : (n a : ℕ) → replicate (suc n) a ≡ replicate n a ++ a ∷ []
 one_more zero a = refl

@@ -1,3 +1,5 @@
 // What people read: accepted sets as listings, and refusals with the word at fault underlined.
+#![tactic(auto)]
+
 pub mod accepted;
 pub mod refused;

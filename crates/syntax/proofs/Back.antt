@@ -1,5 +1,5 @@
 -- The words of a part lead over that part, so words that lead nowhere begin no file.
-use Rattle.std.proofs.Common.{◌≡◌, ℕ, ◌+◌, List, [], ◌∷◌, ◌++◌, Some, None, Option, sym, refl, ap, ◌∙◌, append_assoc, append-nil, arith}
+use Rattle.std.proofs.Common.{◌≡◌, ℕ, List, [], ◌∷◌, ◌++◌, Some, None, Option, sym, refl, ap, ◌∙◌, append_assoc, append-nil, arith}
 use Rattle.words.specs.declared.name.Ident.{Ident}
 use Rattle.words.specs.declared.word.Keyword.TheVariants as k
 use Rattle.words.specs.declared.word.Mark.TheVariants as m
@@ -12,8 +12,8 @@ use Rattle.syntax.specs.declared.tree.Payload.{Payload}
 use Rattle.syntax.specs.declared.tree.Payload.TheVariants.{Nothing, Block, End}
 use Rattle.syntax.specs.declared.tree.Message.{Message}
 use Rattle.syntax.specs.declared.tree.Move.{Move}
-use Rattle.syntax.specs.Trees.{StateTree, ContractTree, Parts, parts_of}
-use Rattle.syntax.specs.Grammar.{each, way_word, message_words, move_words, state_words, contract_words, file_words, Stated, Spells, Viable}
+use Rattle.syntax.specs.Trees.{StateTree, ContractTree, parts_of}
+use Rattle.syntax.specs.Grammar.{each, message_words, move_words, state_words, contract_words, file_words, Stated, Spells, Viable}
 use Rattle.syntax.specs.Laws.{head_words}
 use Rattle.syntax.specs.Table.{among}
 use Rattle.syntax.specs.Machine.{At, Progress, add_move, ask}

@@ -1,8 +1,7 @@
 -- What led to a spot can be continued to a file.
-use Rattle.std.proofs.Common.{◌≡◌, ℕ, List, [], ◌∷◌, ◌++◌, sym, refl, ap, ◌∙◌, append_assoc, append-nil}
+use Rattle.std.proofs.Common.{◌≡◌, List, [], ◌∷◌, ◌++◌, sym, ap, ◌∙◌, append_assoc, append-nil}
 use Rattle.words.specs.declared.name.Ident.{Ident}
 use Rattle.words.specs.Signs.{Sign}
-use Rattle.words.specs.Signs as s
 use Rattle.syntax.specs.declared.tree.Mark.{Mark}
 use Rattle.syntax.specs.declared.tree.Mark.TheVariants.{Out}
 use Rattle.syntax.specs.declared.tree.Role.{Role}
@@ -10,9 +9,9 @@ use Rattle.syntax.specs.declared.tree.Payload.TheVariants.{Block, End}
 use Rattle.syntax.specs.declared.tree.Message.{Message}
 use Rattle.syntax.specs.declared.tree.Move.{Move}
 use Rattle.syntax.specs.Trees.{StateTree, ContractTree, no_ident}
-use Rattle.syntax.specs.Grammar.{file_words, Stated, Spells, Viable}
+use Rattle.syntax.specs.Grammar.{file_words, Stated, Viable}
 use Rattle.syntax.specs.Machine.{At}
-use Rattle.syntax.proofs.Trails.{Opened, Trail, start, heading, opening, messages, message, called, carrying, stating, closing, state, entering, moves, move, marked, aiming, aimed, states, more, spelled, at, state_of, with_move, with_message, contract_of, stated-push}
+use Rattle.syntax.proofs.Trails.{Opened, Trail, start, heading, opening, messages, message, called, carrying, stating, closing, state, entering, moves, move, marked, aiming, aimed, states, more, spelled, state_of, with_move, with_message, contract_of, stated-push}
 use Rattle.syntax.proofs.Steps.{Onto, edges, pushed}
 
 abbrev Fills : Trail → Type 0

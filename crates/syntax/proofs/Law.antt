@@ -1,5 +1,5 @@
 -- The table is right about every text: what it accepts is a file, and what it refuses is at fault where and as it says.
-use Rattle.std.proofs.Common.{◌≡◌, ℕ, ◌+◌, ◌≤◌, ◌⊎◌, List, [], ◌∷◌, ◌++◌, map, Some, None, Ok, Err, Option, Result, sym, refl, ap, ◌∙◌, subst, inl, inr, append_assoc, append-nil, arith}
+use Rattle.std.proofs.Common.{◌≡◌, ℕ, ◌≤◌, ◌⊎◌, List, [], ◌∷◌, ◌++◌, Some, None, Err, Option, sym, refl, ap, ◌∙◌, subst, inl, inr, append_assoc, append-nil, arith}
 use Rattle.std.proofs.lemmas.List.{map_push}
 use Rattle.words.specs.declared.name.Ident.{Ident}
 use Rattle.words.specs.declared.fault.Source.TheVariants.{Contracts}
@@ -8,15 +8,15 @@ use Rattle.words.specs.Signs as s
 use Rattle.words.specs.Stream.{Stream, stop, bad, word, Proper}
 use Rattle.syntax.specs.declared.fault.GrammarFault.{GrammarFault}
 use Rattle.syntax.specs.declared.fault.GrammarFault.TheVariants as fault
-use Rattle.syntax.specs.Trees.{ContractTree, Parts, parts_of}
+use Rattle.syntax.specs.Trees.{Parts}
 use Rattle.syntax.specs.Grammar.{Spells, Viable}
 use Rattle.syntax.specs.Laws.{joins, signs, Beyond, Second, Passed, Clean, span_of, Lowest, unexpected, Wrong, Right}
 use Rattle.syntax.specs.Laws as law
-use Rattle.syntax.specs.Table.{Check, fine, too_many, repeated, Turn, go, new, accept, among, after, run}
+use Rattle.syntax.specs.Table.{fine, too_many, repeated, Turn, go, new, accept, among, after, run}
 use Rattle.syntax.specs.Machine.{At, ask}
 use Rattle.syntax.proofs.Tables.{Of, onward, along}
 use Rattle.syntax.proofs.Trails.{Trail, start, spelled, at}
-use Rattle.syntax.proofs.Steps.{Onto, Says, Steps, Wordy, steps}
+use Rattle.syntax.proofs.Steps.{Onto, Says, Steps, steps}
 use Rattle.syntax.proofs.Back.{over, origin, stuck, unfinished}
 use Rattle.syntax.proofs.Fill.{fill}
 use Rattle.syntax.proofs.Spots.{level, beyond_level, second_level}

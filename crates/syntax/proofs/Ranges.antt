@@ -11,7 +11,7 @@ use Rattle.words.specs.Signs as s
 use Rattle.syntax.specs.declared.tree.Message.{Message}
 use Rattle.syntax.specs.declared.tree.Move.{Move}
 use Rattle.syntax.specs.declared.tree.MoveEntry.{MoveEntry}
-use Rattle.syntax.specs.Trees.{StateTree, ContractTree, HeadTree, Parts, parts_of, head_tree, numbered, entries_of, move_entries, no_head, no_move, Ranged}
+use Rattle.syntax.specs.Trees.{StateTree, ContractTree, HeadTree, parts_of, head_tree, numbered, entries_of, move_entries, no_head, no_move, Ranged}
 use Rattle.syntax.specs.Grammar.{each, way_word, payload_words, message_words, move_words, state_words, contract_words, file_words, Stated, Spells}
 use Rattle.syntax.specs.Laws.{Family, contracts, messages, states, head_words, Named, Passed, Clean}
 use Rattle.syntax.proofs.Exact.{clean_at}

@@ -1,5 +1,5 @@
 -- What is fetched leaves fewer bytes, and a fetched name is not empty.
-use Rattle.std.proofs.Common.{◌≡◌, ℕ, ◌+◌, ◌≤◌, drop, IfOk, Ok, Err, Result, sym, refl, ap, ◌∙◌, subst, arith}
+use Rattle.std.proofs.Common.{◌≡◌, ◌+◌, ◌≤◌, drop, IfOk, Ok, Err, Result, sym, subst, arith}
 use Rattle.words.specs.declared.fault.Source.{Source}
 use Rattle.words.specs.declared.fault.WordFault.{WordFault}
 use Rattle.words.specs.declared.reader.Reader.{Reader}

@@ -1,11 +1,11 @@
 -- From the table's answer to the laws.
-use Rattle.std.proofs.Common.{◌≡◌, ℕ, ◌≤◌, List, [], length, IfOk, Ok, Err, Result, sym, refl, ap, ◌∙◌, subst}
+use Rattle.std.proofs.Common.{◌≡◌, ℕ, List, [], IfOk, Ok, Err, Result, sym, subst}
 use Rattle.words.specs.declared.fault.Source.TheVariants.{Contracts}
 use Rattle.words.specs.Stream.{words_of}
 use Rattle.words.proofs.Streams.{stream-proper}
 use Rattle.syntax.specs.declared.fault.GrammarFault.{GrammarFault}
 use Rattle.syntax.specs.declared.tree.Tree.{Tree}
-use Rattle.syntax.specs.Trees.{Parts, parts_of, parts, Ranged}
+use Rattle.syntax.specs.Trees.{parts_of, parts, Ranged}
 use Rattle.syntax.specs.Laws.{signs, Right, Exact, outcome}
 use Rattle.syntax.specs.Table.{run}
 use Rattle.syntax.specs.Machine.{ask, start}

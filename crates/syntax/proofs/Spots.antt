@@ -1,5 +1,5 @@
 -- What the checks of names mean: limits (6) and second names (7).
-use Rattle.std.proofs.Common.{◌≡◌, ℕ, ◌+◌, ◌≤◌, Bool, true, false, cond, leb, ◌⊎◌, List, [], ◌∷◌, ◌++◌, map, length, Some, None, Option, sym, refl, ap, ◌∙◌, subst, inl, inr, le-leb}
+use Rattle.std.proofs.Common.{◌≡◌, ℕ, Bool, true, false, cond, leb, ◌⊎◌, List, [], ◌∷◌, ◌++◌, length, Some, None, Option, sym, refl, ap, ◌∙◌, subst, inl, inr, le-leb}
 use Rattle.words.specs.declared.name.Ident.{Ident}
 use Rattle.words.specs.declared.word.Keyword.TheVariants as k
 use Rattle.words.specs.Signs.{Sign}
@@ -7,16 +7,16 @@ use Rattle.words.specs.Signs as s
 use Rattle.syntax.specs.declared.tree.Mark.{Mark}
 use Rattle.syntax.specs.declared.tree.Mark.TheVariants.{Out, In}
 use Rattle.syntax.specs.declared.tree.Message.{Message}
-use Rattle.syntax.specs.Trees.{StateTree, ContractTree, Parts, parts_of}
+use Rattle.syntax.specs.Trees.{ContractTree, Parts, parts_of}
 use Rattle.syntax.specs.Grammar.{each, way_word, state_words, file_words, Stated}
-use Rattle.syntax.specs.Laws.{Family, contracts, messages, states, head_words, Beyond, Second, Named}
+use Rattle.syntax.specs.Laws.{Family, contracts, messages, states, head_words, Beyond, Second}
 use Rattle.syntax.specs.Table.{Check, fine, too_many, repeated, known, admission, Turn, go, new, accept, among}
 use Rattle.syntax.specs.Machine.{At, ask}
 use Rattle.syntax.specs.Machine as q
 use Rattle.syntax.proofs.Names.{is_known}
 use Rattle.syntax.proofs.Trails.{Opened, progress}
 use Rattle.syntax.proofs.Steps.{heads-named}
-use Rattle.syntax.proofs.Back.{over, origin, over_file, over_head, over_messages, to-state}
+use Rattle.syntax.proofs.Back.{over, origin, over_file, over_head, to-state}
 
 abbrev opened_at : (cs : List ContractTree) → Stated cs → Ident → List Message → Opened
 opened_at cs st n ms = record { before = cs; stated = st; ident = n; messages = ms }

@@ -1,13 +1,13 @@
 -- Each word that may stand next: the trees that it leads to, the words so far, and what a check says of it.
-use Rattle.std.proofs.Common.{◌≡◌, ℕ, ◌+◌, ◌≤◌, Bool, true, false, cond, leb, List, [], ◌∷◌, ◌++◌, map, length, sym, refl, ap, ◌∙◌, subst, append_assoc, append-nil, arith, leb-true}
+use Rattle.std.proofs.Common.{◌≡◌, ℕ, Bool, true, false, cond, leb, List, [], ◌∷◌, ◌++◌, map, length, sym, refl, ap, append_assoc, append-nil, arith, leb-true}
 use Rattle.words.specs.declared.name.Ident.{Ident}
 use Rattle.words.specs.Signs.{Sign}
 use Rattle.words.specs.Signs as s
 use Rattle.syntax.specs.declared.tree.Mark.TheVariants.{Out, In}
 use Rattle.syntax.specs.declared.tree.Role.TheVariants.{Exporting, Importing}
 use Rattle.syntax.specs.declared.tree.Payload.TheVariants.{Nothing, Block, End}
-use Rattle.syntax.specs.Trees.{StateTree, ContractTree, Parts, head_tree, parts_of}
-use Rattle.syntax.specs.Grammar.{file_words, Stated, Spells}
+use Rattle.syntax.specs.Trees.{ContractTree, Parts, head_tree, parts_of}
+use Rattle.syntax.specs.Grammar.{Spells}
 use Rattle.syntax.specs.Laws.{Family, contracts, Beyond, Second}
 use Rattle.syntax.specs.Laws as family
 use Rattle.syntax.specs.Table.{Check, fine, too_many, repeated, known, admission, Turn, go, new, accept, among}
@@ -15,7 +15,7 @@ use Rattle.syntax.specs.Machine.{At, ask}
 use Rattle.syntax.specs.Machine as q
 use Rattle.syntax.proofs.Names.{named}
 use Rattle.syntax.proofs.Tables.{Edges, Of, leads}
-use Rattle.syntax.proofs.Trails.{Opened, Trail, start, heading, opening, messages, message, called, carrying, stating, closing, state, entering, moves, move, marked, aiming, aimed, states, more, spelled, at, state_of, with_move, with_message, contract_of, each-push, begin, add_state_lem, add_move_lem, end-contract, stated-push}
+use Rattle.syntax.proofs.Trails.{Trail, start, heading, opening, messages, message, called, carrying, stating, closing, state, entering, moves, move, marked, aiming, aimed, states, more, spelled, at, state_of, with_move, with_message, contract_of, each-push, begin, add_state_lem, add_move_lem, end-contract, stated-push}
 
 -- what a check says of a word after ws
 abbrev pub Says : Check → Sign → List Sign → Type 0

@@ -13,7 +13,7 @@ use Rattle.syntax.specs.declared.tree.Message.{Message}
 use Rattle.syntax.specs.declared.tree.Move.{Move}
 use Rattle.syntax.specs.declared.tree.MoveEntry.{MoveEntry}
 use Rattle.syntax.specs.Trees.{StateTree, ContractTree, HeadTree, Parts, numbered, entries_of, move_entries, head_tree, parts_of}
-use Rattle.syntax.specs.Grammar.{each, way_word, role_word, mark_word, payload_words, message_words, move_words, state_words, contract_words, file_words, Stated}
+use Rattle.syntax.specs.Grammar.{each, way_word, role_word, mark_word, payload_words, move_words, state_words, file_words, Stated}
 use Rattle.syntax.specs.Laws.{head_words}
 use Rattle.syntax.specs.Machine.{At, Progress, begun, add_message, add_state, add_move, ended}
 use Rattle.syntax.specs.Machine as q

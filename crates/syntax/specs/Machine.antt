@@ -20,7 +20,7 @@ use Rattle.syntax.specs.declared.tree.MoveEntry.{MoveEntry}
 use Rattle.syntax.specs.declared.feed.Feed.{Feed}
 use Rattle.syntax.specs.Picks.{left}
 use Rattle.syntax.specs.Trees.{HeadTree, Parts}
-use Rattle.syntax.specs.Table.{Turn, go, new, accept, Alt, key, mark, name, end, admission, run}
+use Rattle.syntax.specs.Table.{go, new, accept, Alt, key, mark, name, end, admission, run}
 
 pub record Progress : Type 0 where
   pub heads : List HeadTree

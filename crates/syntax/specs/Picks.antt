@@ -4,7 +4,7 @@
 --   fetched f from       what f reads off the next word of a feed, or the fault
 --   Moved a b            the feed b is the feed a after one word
 --   admitted from n full seen     whether the name n may join its family
-use Rattle.std.specs.Prelude.{◌≡◌, ℕ, Bool, true, false, cond, Some, None, Ok, Err, Option, Result}
+use Rattle.std.specs.Prelude.{◌≡◌, Bool, true, false, cond, Some, None, Ok, Err, Option, Result}
 use Rattle.words.specs.declared.name.Ident.{Ident}
 use Rattle.words.specs.declared.word.Keyword.TheVariants as k
 use Rattle.words.specs.declared.word.Mark.{Mark as MarkWord}

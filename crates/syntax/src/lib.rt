@@ -1,4 +1,6 @@
 // Contract files from words to a tree, whose names keep their places.
+#![tactic(auto)]
+
 ghost use Rattle.std.specs.Prelude.{◌≡◌, ◌<◌, ◌≤◌, [], length, IfOk, Err};
 ghost use Rattle.words.specs.declared.fault.Source.TheVariants as sources;
 ghost use Rattle.words.specs.Reading.{rest, source_of, too_large};

@@ -4,7 +4,6 @@ use Rattle.std.proofs.lemmas.List.{drop_all, drop-drop, length-drop}
 use Rattle.std.proofs.lemmas.Bool.{cond_both, cond-true, lt-ltb, ltb-true, ltb-false}
 use Rattle.words.specs.Runs.{blank, run}
 use Rattle.words.specs.Signs.{Word, size_of}
-use Rattle.words.specs.Signs as s
 use Rattle.words.specs.Stream.{Lexeme, one, none, lexeme, Stream, stop, bad, word, fetched, stream, bytes_in, Proper, WellPlaced}
 use Rattle.words.specs.Reading.{placed}
 use Rattle.words.proofs.Lexemes.{Fitting, lexeme_fits}
