@@ -1,13 +1,13 @@
 -- What the check of a name says: whether its family has room, and whether the name stands in it before.
-use Rattle.std.proofs.Common.{◌≡◌, ℕ, zero, suc, ◌<◌, ◌≤◌, Bool, true, false, cond, leb, List, [], ◌∷◌, ◌++◌, map, length, get_or, take, Some, None, Option, sym, refl, ap, ◌∙◌, subst, inl, inr, le_of_suc-le-suc, arith, le-leb, leb-true}
+use Rattle.std.proofs.Common.{◌≡◌, ℕ, zero, suc, ◌<◌, ◌≤◌, Bool, true, false, cond, leb, List, [], ◌∷◌, ◌++◌, map, length, get_or, take, Some, Option, sym, refl, ap, ◌∙◌, subst, inl, inr, le_of_suc-le-suc, arith, le-leb, leb-true}
 use Rattle.std.proofs.lemmas.List.{length-take-le, get_or-take}
 use Rattle.std.proofs.lemmas.Bool.{cases_order}
 use Rattle.words.specs.declared.name.Ident.{Ident}
 use Rattle.words.specs.Signs.{Sign}
 use Rattle.words.specs.Signs as s
-use Rattle.grammar.specs.Families.{no_ident, Named, Once, Beyond, Second}
-use Rattle.grammar.specs.Laws.{Limit, room, once, Passed, Clean}
-use Rattle.grammar.specs.Table.{Check, fine, too_many, repeated, known, admission, Turn, new}
+use Rattle.grammar.specs.Families.{no_ident, Named, Once}
+use Rattle.grammar.specs.Laws.{Limit, room, once}
+use Rattle.grammar.specs.Table.{fine, too_many, repeated, known, admission, Turn, new}
 use Rattle.grammar.proofs.Names.{named, is_known}
 use Rattle.grammar.proofs.Grammars.{check_level, level, Says}
 

@@ -1,5 +1,5 @@
 -- A file's words, each of which has passed, are accepted as that file.
-use Rattle.std.proofs.Common.{◌≡◌, ℕ, List, [], ◌∷◌, ◌++◌, Some, None, Ok, Err, Result, sym, refl, ap, ◌∙◌, subst, append_assoc, append-nil, arith}
+use Rattle.std.proofs.Common.{◌≡◌, ℕ, List, [], ◌∷◌, ◌++◌, Some, Ok, Err, Result, sym, refl, ap, ◌∙◌, subst, append_assoc, append-nil, arith}
 use Rattle.std.proofs.lemmas.List.{map-append}
 use Rattle.words.specs.declared.fault.Source.{Source}
 use Rattle.words.specs.Signs.{Sign, Word}
@@ -8,7 +8,6 @@ use Rattle.words.specs.Stream.{Stream, stop, bad, word}
 use Rattle.grammar.specs.declared.fault.GrammarFault.{GrammarFault}
 use Rattle.grammar.specs.Laws.{Limit, joins, signs, Passed, Clean, Lowest, unexpected, limited, Wrong, Right, Exact}
 use Rattle.grammar.specs.Table.{Alt, accept, among}
-use Rattle.grammar.proofs.Tables.{walk}
 use Rattle.grammar.proofs.Grammars.{Tabled}
 
 -- two ways to begin one text that ends

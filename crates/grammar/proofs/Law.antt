@@ -1,16 +1,15 @@
 -- A table that keeps to its grammar is right about every text: what it accepts is a file, and what it refuses is at fault where
 -- and as it says.
-use Rattle.std.proofs.Common.{◌≡◌, ℕ, ◌<◌, ◌≤◌, List, [], ◌∷◌, ◌++◌, length, Some, None, Ok, Err, Option, sym, refl, ap, ◌∙◌, subst, append_assoc, append-nil, arith}
+use Rattle.std.proofs.Common.{◌≡◌, ℕ, ◌<◌, ◌≤◌, List, [], ◌∷◌, ◌++◌, length, Some, None, Err, Option, sym, refl, ap, ◌∙◌, subst, append_assoc, append-nil, arith}
 use Rattle.std.proofs.lemmas.List.{map_push}
 use Rattle.words.specs.declared.name.Ident.{Ident}
 use Rattle.words.specs.declared.fault.Source.{Source}
-use Rattle.words.specs.declared.fault.Span.{Span}
 use Rattle.words.specs.Signs.{Sign, Word, Numeral, size_of}
 use Rattle.words.specs.Signs as s
 use Rattle.words.specs.Stream.{Stream, stop, bad, word, WellPlaced}
 use Rattle.grammar.specs.declared.fault.GrammarFault.{GrammarFault}
 use Rattle.grammar.specs.declared.fault.GrammarFault.TheVariants as fault
-use Rattle.grammar.specs.Laws.{Limit, range, room, once, limit_number, limit_fault, joins, signs, span_of, Viable, Unallowed, Passed, Clean, Lowest, unexpected, limited, Wrong, Right}
+use Rattle.grammar.specs.Laws.{Limit, range, room, once, limit_number, limit_fault, joins, signs, span_of, Viable, Passed, Clean, Lowest, unexpected, limited, Right}
 use Rattle.grammar.specs.Table.{Check, fine, too_many, repeated, out_of_range, crowded, Turn, go, new, accept, Alt, among, after, run}
 use Rattle.grammar.proofs.Tables.{Of, leads, onward, walk, along}
 use Rattle.grammar.proofs.Grammars.{check_level, level, Onto, Steps, Tabled}

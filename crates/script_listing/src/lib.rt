@@ -1,2 +1,3 @@
 // What people read of an accepted set of scripts.
+#![tactic(auto)]
 pub mod scripts;
