@@ -11,7 +11,7 @@ pub returns : goal.returns
 returns c =
     let text = c.args.text.now in
     let r = c.parsed.result in
-    let a = c.in-ok-feed.ensures.answer in
+    let a = c.in_ok-feed.ensures.answer in
     let e : outcome r ≡ run ask Scripts (start []) (words_of text) = c.parsed.ensures ∙ ap (run ask Scripts (start [])) a.1 in
     record {
       large = λ h. let l = a.0 in absurd (omega arith);

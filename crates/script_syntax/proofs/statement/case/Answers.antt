@@ -9,14 +9,14 @@ use Rattle.script_syntax.proofs.statement.case.Goals as goal
 
 pub returns : goal.returns
 returns c =
-    let g = by_number c.in-ok-distance.ensures.head c.in-ok-distance.ensures.rest in
+    let g = by_number c.in_ok-distance.ensures.head c.in_ok-distance.ensures.rest in
     record {
       goes = λ p.
-          let same : typed o.Case (s.Name c.in-ok-contract.contract ∷ s.Name c.in-ok-message.message ∷ s.Number g.n ∷ []) ≡ t.Case c.in-ok-contract.contract c.in-ok-message.message c.in-ok-distance.distance = cc in
-          by_name c.in-ok-contract.ensures.head c.in-ok-contract.ensures.rest p o.Case ([]) _
-          ∙ by_name c.in-ok-message.ensures.head c.in-ok-message.ensures.rest p o.Case (s.Name c.in-ok-contract.contract ∷ []) _
-          ∙ g.goes p o.Case (s.Name c.in-ok-contract.contract ∷ s.Name c.in-ok-message.message ∷ []) _
-          ∙ closes c.distance.new.feed p o.Case (s.Name c.in-ok-contract.contract ∷ s.Name c.in-ok-message.message ∷ s.Number g.n ∷ [])
+          let same : typed o.Case (s.Name c.in_ok-contract.contract ∷ s.Name c.in_ok-message.message ∷ s.Number g.n ∷ []) ≡ t.Case c.in_ok-contract.contract c.in_ok-message.message c.in_ok-distance.distance = cc in
+          by_name c.in_ok-contract.ensures.head c.in_ok-contract.ensures.rest p o.Case ([]) _
+          ∙ by_name c.in_ok-message.ensures.head c.in_ok-message.ensures.rest p o.Case (s.Name c.in_ok-contract.contract ∷ []) _
+          ∙ g.goes p o.Case (s.Name c.in_ok-contract.contract ∷ s.Name c.in_ok-message.message ∷ []) _
+          ∙ closes c.distance.new.feed p o.Case (s.Name c.in_ok-contract.contract ∷ s.Name c.in_ok-message.message ∷ s.Number g.n ∷ [])
           ∙ ap (λ x. reading (closing p x) c.distance.new.feed) same;
       left = search rules;
     }

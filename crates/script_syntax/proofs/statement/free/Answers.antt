@@ -9,10 +9,10 @@ use Rattle.script_syntax.proofs.statement.free.Goals as goal
 
 pub returns : goal.returns
 returns c =
-    let e = by_number c.in-ok-register.ensures.head c.in-ok-register.ensures.rest in
+    let e = by_number c.in_ok-register.ensures.head c.in_ok-register.ensures.rest in
     record {
       goes = λ p.
-          let same : typed o.Free (s.Number e.n ∷ []) ≡ t.Free c.in-ok-register.register = cc in
+          let same : typed o.Free (s.Number e.n ∷ []) ≡ t.Free c.in_ok-register.register = cc in
           e.goes p o.Free ([]) _
           ∙ closes c.small.new.feed p o.Free (s.Number e.n ∷ [])
           ∙ ap (λ x. reading (closing p x) c.small.new.feed) same;

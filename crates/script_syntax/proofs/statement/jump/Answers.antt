@@ -9,10 +9,10 @@ use Rattle.script_syntax.proofs.statement.jump.Goals as goal
 
 pub returns : goal.returns
 returns c =
-    let e = by_number c.in-ok-distance.ensures.head c.in-ok-distance.ensures.rest in
+    let e = by_number c.in_ok-distance.ensures.head c.in_ok-distance.ensures.rest in
     record {
       goes = λ p.
-          let same : typed o.Jump (s.Number e.n ∷ []) ≡ t.Jump c.in-ok-distance.distance = cc in
+          let same : typed o.Jump (s.Number e.n ∷ []) ≡ t.Jump c.in_ok-distance.distance = cc in
           e.goes p o.Jump ([]) _
           ∙ closes c.distance.new.feed p o.Jump (s.Number e.n ∷ [])
           ∙ ap (λ x. reading (closing p x) c.distance.new.feed) same;

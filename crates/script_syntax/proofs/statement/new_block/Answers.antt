@@ -9,10 +9,10 @@ use Rattle.script_syntax.proofs.statement.new_block.Goals as goal
 
 pub returns : goal.returns
 returns c =
-    let e = by_number c.in-ok-register.ensures.head c.in-ok-register.ensures.rest in
+    let e = by_number c.in_ok-register.ensures.head c.in_ok-register.ensures.rest in
     record {
       goes = λ p.
-          let same : typed o.New (s.Number e.n ∷ []) ≡ t.New c.in-ok-register.register = cc in
+          let same : typed o.New (s.Number e.n ∷ []) ≡ t.New c.in_ok-register.register = cc in
           e.goes p o.New ([]) _
           ∙ closes c.small.new.feed p o.New (s.Number e.n ∷ [])
           ∙ ap (λ x. reading (closing p x) c.small.new.feed) same;

@@ -9,15 +9,15 @@ use Rattle.script_syntax.proofs.statement.open_channel.Goals as goal
 
 pub returns : goal.returns
 returns c =
-    let f = by_number c.in-ok-exporting.ensures.head c.in-ok-exporting.ensures.rest in
-    let g = by_number c.in-ok-importing.ensures.head c.in-ok-importing.ensures.rest in
+    let f = by_number c.in_ok-exporting.ensures.head c.in_ok-exporting.ensures.rest in
+    let g = by_number c.in_ok-importing.ensures.head c.in_ok-importing.ensures.rest in
     record {
       goes = λ p.
-          let same : typed o.Open (s.Name c.in-ok-contract.contract ∷ s.Number f.n ∷ s.Number g.n ∷ []) ≡ t.Open c.in-ok-contract.contract c.in-ok-exporting.exporting c.in-ok-importing.importing = cc in
-          by_name c.in-ok-contract.ensures.head c.in-ok-contract.ensures.rest p o.Open ([]) _
-          ∙ f.goes p o.Open (s.Name c.in-ok-contract.contract ∷ []) _
-          ∙ g.goes p o.Open (s.Name c.in-ok-contract.contract ∷ s.Number f.n ∷ []) _
-          ∙ closes c.small-2.new.feed p o.Open (s.Name c.in-ok-contract.contract ∷ s.Number f.n ∷ s.Number g.n ∷ [])
+          let same : typed o.Open (s.Name c.in_ok-contract.contract ∷ s.Number f.n ∷ s.Number g.n ∷ []) ≡ t.Open c.in_ok-contract.contract c.in_ok-exporting.exporting c.in_ok-importing.importing = cc in
+          by_name c.in_ok-contract.ensures.head c.in_ok-contract.ensures.rest p o.Open ([]) _
+          ∙ f.goes p o.Open (s.Name c.in_ok-contract.contract ∷ []) _
+          ∙ g.goes p o.Open (s.Name c.in_ok-contract.contract ∷ s.Number f.n ∷ []) _
+          ∙ closes c.small-2.new.feed p o.Open (s.Name c.in_ok-contract.contract ∷ s.Number f.n ∷ s.Number g.n ∷ [])
           ∙ ap (λ x. reading (closing p x) c.small-2.new.feed) same;
       left = search rules;
     }

@@ -9,16 +9,16 @@ use Rattle.script_syntax.proofs.statement.pass.Goals as goal
 
 pub returns : goal.returns
 returns c =
-    let e = by_number c.in-ok-end.ensures.head c.in-ok-end.ensures.rest in
-    let h = by_number c.in-ok-payload.ensures.head c.in-ok-payload.ensures.rest in
+    let e = by_number c.in_ok-end.ensures.head c.in_ok-end.ensures.rest in
+    let h = by_number c.in_ok-payload.ensures.head c.in_ok-payload.ensures.rest in
     record {
       goes = λ p.
-          let same : typed o.Pass (s.Number e.n ∷ s.Name c.in-ok-contract.contract ∷ s.Name c.in-ok-message.message ∷ s.Number h.n ∷ []) ≡ t.Pass c.in-ok-end.end c.in-ok-contract.contract c.in-ok-message.message c.in-ok-payload.payload = cc in
+          let same : typed o.Pass (s.Number e.n ∷ s.Name c.in_ok-contract.contract ∷ s.Name c.in_ok-message.message ∷ s.Number h.n ∷ []) ≡ t.Pass c.in_ok-end.end c.in_ok-contract.contract c.in_ok-message.message c.in_ok-payload.payload = cc in
           e.goes p o.Pass ([]) _
-          ∙ by_name c.in-ok-contract.ensures.head c.in-ok-contract.ensures.rest p o.Pass (s.Number e.n ∷ []) _
-          ∙ by_name c.in-ok-message.ensures.head c.in-ok-message.ensures.rest p o.Pass (s.Number e.n ∷ s.Name c.in-ok-contract.contract ∷ []) _
-          ∙ h.goes p o.Pass (s.Number e.n ∷ s.Name c.in-ok-contract.contract ∷ s.Name c.in-ok-message.message ∷ []) _
-          ∙ closes c.small-2.new.feed p o.Pass (s.Number e.n ∷ s.Name c.in-ok-contract.contract ∷ s.Name c.in-ok-message.message ∷ s.Number h.n ∷ [])
+          ∙ by_name c.in_ok-contract.ensures.head c.in_ok-contract.ensures.rest p o.Pass (s.Number e.n ∷ []) _
+          ∙ by_name c.in_ok-message.ensures.head c.in_ok-message.ensures.rest p o.Pass (s.Number e.n ∷ s.Name c.in_ok-contract.contract ∷ []) _
+          ∙ h.goes p o.Pass (s.Number e.n ∷ s.Name c.in_ok-contract.contract ∷ s.Name c.in_ok-message.message ∷ []) _
+          ∙ closes c.small-2.new.feed p o.Pass (s.Number e.n ∷ s.Name c.in_ok-contract.contract ∷ s.Name c.in_ok-message.message ∷ s.Number h.n ∷ [])
           ∙ ap (λ x. reading (closing p x) c.small-2.new.feed) same;
       left = search rules;
     }

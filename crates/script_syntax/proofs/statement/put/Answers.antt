@@ -9,12 +9,12 @@ use Rattle.script_syntax.proofs.statement.put.Goals as goal
 
 pub returns : goal.returns
 returns c =
-    let e = by_number c.in-ok-register.ensures.head c.in-ok-register.ensures.rest in
-    let f = by_number c.in-ok-place.ensures.head c.in-ok-place.ensures.rest in
-    let g = by_number c.in-ok-byte.ensures.head c.in-ok-byte.ensures.rest in
+    let e = by_number c.in_ok-register.ensures.head c.in_ok-register.ensures.rest in
+    let f = by_number c.in_ok-place.ensures.head c.in_ok-place.ensures.rest in
+    let g = by_number c.in_ok-byte.ensures.head c.in_ok-byte.ensures.rest in
     record {
       goes = λ p.
-          let same : typed o.Put (s.Number e.n ∷ s.Number f.n ∷ s.Number g.n ∷ []) ≡ t.Put c.in-ok-register.register c.in-ok-place.place c.in-ok-byte.byte = cc in
+          let same : typed o.Put (s.Number e.n ∷ s.Number f.n ∷ s.Number g.n ∷ []) ≡ t.Put c.in_ok-register.register c.in_ok-place.place c.in_ok-byte.byte = cc in
           e.goes p o.Put ([]) _
           ∙ f.goes p o.Put (s.Number e.n ∷ []) _
           ∙ g.goes p o.Put (s.Number e.n ∷ s.Number f.n ∷ []) _

@@ -9,11 +9,11 @@ use Rattle.script_syntax.proofs.statement.receive.Goals as goal
 
 pub returns : goal.returns
 returns c =
-    let e = by_number c.in-ok-end.ensures.head c.in-ok-end.ensures.rest in
-    let f = by_number c.in-ok-payload.ensures.head c.in-ok-payload.ensures.rest in
+    let e = by_number c.in_ok-end.ensures.head c.in_ok-end.ensures.rest in
+    let f = by_number c.in_ok-payload.ensures.head c.in_ok-payload.ensures.rest in
     record {
       goes = λ p.
-          let same : typed o.Receive (s.Number e.n ∷ s.Number f.n ∷ []) ≡ t.Receive c.in-ok-end.end c.in-ok-payload.payload = cc in
+          let same : typed o.Receive (s.Number e.n ∷ s.Number f.n ∷ []) ≡ t.Receive c.in_ok-end.end c.in_ok-payload.payload = cc in
           e.goes p o.Receive ([]) _
           ∙ f.goes p o.Receive (s.Number e.n ∷ []) _
           ∙ closes c.small-2.new.feed p o.Receive (s.Number e.n ∷ s.Number f.n ∷ [])

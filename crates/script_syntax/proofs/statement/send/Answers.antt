@@ -9,14 +9,14 @@ use Rattle.script_syntax.proofs.statement.send.Goals as goal
 
 pub returns : goal.returns
 returns c =
-    let e = by_number c.in-ok-end.ensures.head c.in-ok-end.ensures.rest in
+    let e = by_number c.in_ok-end.ensures.head c.in_ok-end.ensures.rest in
     record {
       goes = λ p.
-          let same : typed o.Send (s.Number e.n ∷ s.Name c.in-ok-contract.contract ∷ s.Name c.in-ok-message.message ∷ []) ≡ t.Send c.in-ok-end.end c.in-ok-contract.contract c.in-ok-message.message = cc in
+          let same : typed o.Send (s.Number e.n ∷ s.Name c.in_ok-contract.contract ∷ s.Name c.in_ok-message.message ∷ []) ≡ t.Send c.in_ok-end.end c.in_ok-contract.contract c.in_ok-message.message = cc in
           e.goes p o.Send ([]) _
-          ∙ by_name c.in-ok-contract.ensures.head c.in-ok-contract.ensures.rest p o.Send (s.Number e.n ∷ []) _
-          ∙ by_name c.in-ok-message.ensures.head c.in-ok-message.ensures.rest p o.Send (s.Number e.n ∷ s.Name c.in-ok-contract.contract ∷ []) _
-          ∙ closes c.name-2.new.self p o.Send (s.Number e.n ∷ s.Name c.in-ok-contract.contract ∷ s.Name c.in-ok-message.message ∷ [])
+          ∙ by_name c.in_ok-contract.ensures.head c.in_ok-contract.ensures.rest p o.Send (s.Number e.n ∷ []) _
+          ∙ by_name c.in_ok-message.ensures.head c.in_ok-message.ensures.rest p o.Send (s.Number e.n ∷ s.Name c.in_ok-contract.contract ∷ []) _
+          ∙ closes c.name-2.new.self p o.Send (s.Number e.n ∷ s.Name c.in_ok-contract.contract ∷ s.Name c.in_ok-message.message ∷ [])
           ∙ ap (λ x. reading (closing p x) c.name-2.new.self) same;
       left = search rules;
     }

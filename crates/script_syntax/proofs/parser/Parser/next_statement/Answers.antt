@@ -7,12 +7,12 @@ use Rattle.script_syntax.proofs.parser.Parser.next_statement.Goals as goal
 pub returns : goal.returns
 returns c =
     let p = c.args.self.now in
-    let full = leb 64 (length c.as-slice.result.now) in
-    let same = ap (λ l. leb 64 (length l)) (sym c.as-slice.ensures) in
+    let full = leb 64 (length c.as_slice.result.now) in
+    let same = ap (λ l. leb 64 (length l)) (sym c.as_slice.ensures) in
     record {
-      goes = by_statement p.feed c.statement-or-end.new.feed c.statement-or-end.result (progress p) full c.statement-or-end.ensures.head same c.statement-or-end.ensures.rest;
+      goes = by_statement p.feed c.statement_or_end.new.feed c.statement_or_end.result (progress p) full c.statement_or_end.ensures.head same c.statement_or_end.ensures.rest;
       spent = search rules;
       unread = search rules;
-      room = room-left p.feed c.statement-or-end.result (length (row_items p.statements)) full c.statement-or-end.ensures.head same;
+      room = room-left p.feed c.statement_or_end.result (length (row_items p.statements)) full c.statement_or_end.ensures.head same;
       processes = search rules;
     }
