@@ -2,7 +2,7 @@
 use Rattle.std.proofs.Common.{◌≡◌, ℕ, List, [], IfOk, Ok, Err, Result, sym, subst}
 use Rattle.words.specs.declared.fault.Source.TheVariants.{Scripts}
 use Rattle.words.specs.Stream.{words_of}
-use Rattle.words.proofs.Streams.{stream-proper}
+use Rattle.words.proofs.Streams.{stream_well_placed}
 use Rattle.grammar.specs.declared.fault.GrammarFault.{GrammarFault}
 use Rattle.grammar.specs.Laws.{signs}
 use Rattle.grammar.specs.Table.{run}
@@ -15,7 +15,7 @@ use Rattle.script_syntax.proofs.Ranges.{ranged, distinct}
 
 module _ (text : List ℕ) (r : Result Tree GrammarFault) (e : outcome r ≡ run ask Scripts (start []) (words_of text)) where
   pub right_of : Right (words_of text) (outcome r)
-  right_of = subst (λ o. Right (words_of text) o) (sym e) (right (words_of text) (stream-proper text 0 0))
+  right_of = subst (λ o. Right (words_of text) o) (sym e) (right (words_of text) (stream_well_placed text 0 0))
 
   pub exact_of : Exact (words_of text) (outcome r)
   exact_of = exact (words_of text) (outcome r) right_of
