@@ -11,10 +11,10 @@ use Rattle.script_syntax.specs.declared.opcode.Opcode.{Opcode}
 use Rattle.script_syntax.specs.declared.opcode.Opcode.TheVariants as o
 use Rattle.script_syntax.specs.Opcodes.{word_of, Kind, kinds}
 use Rattle.script_syntax.specs.Opcodes as j
-use Rattle.script_syntax.specs.Grammar.{StatementTree, ProcessTree, Operands, Formed, FormedAll, Spells, typed, statement_of, statement_words, head_words, process_words, file_words, parts_of}
+use Rattle.script_syntax.specs.Grammar.{StatementTree, ProcessTree, Operands, Formed, FormedAll, Spells, statement_of, statement_words, head_words, process_words, file_words, parts_of}
 use Rattle.script_syntax.specs.Machine.{At, Progress, added, ask}
 use Rattle.script_syntax.specs.Machine as q
-use Rattle.script_syntax.proofs.Trails.{Inside, progress, process_of, with_statement, add_statement, end-process, all_push}
+use Rattle.script_syntax.proofs.Trails.{Inside, progress, with_statement, add_statement, end-process, all_push}
 
 abbrev pub over : At → List Sign → Option At
 over a xs = walk ask a xs

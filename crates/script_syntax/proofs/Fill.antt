@@ -11,7 +11,7 @@ use Rattle.grammar.proofs.Spelled.{each-push, pushed}
 use Rattle.script_syntax.specs.declared.opcode.Opcode.{Opcode}
 use Rattle.script_syntax.specs.Opcodes.{Kind, kinds}
 use Rattle.script_syntax.specs.Opcodes as j
-use Rattle.script_syntax.specs.Grammar.{ProcessTree, StatementTree, Operands, FormedAll, Spells, file_words, process_words}
+use Rattle.script_syntax.specs.Grammar.{ProcessTree, StatementTree, Operands, FormedAll, Spells, file_words}
 use Rattle.script_syntax.proofs.Trails.{Inside, Trail, start, heading, opening, body, operands, more, spelled, process_of, with_statement, all_push}
 
 -- what can be continued after more words can be continued

@@ -1,5 +1,5 @@
 -- The table of script files keeps to their grammar, so it is right about every text.
-use Rattle.std.proofs.Common.{List, [], Result, refl}
+use Rattle.std.proofs.Common.{List, Result, refl}
 use Rattle.words.specs.declared.fault.Source.TheVariants.{Scripts}
 use Rattle.words.specs.Stream.{Stream, WellPlaced}
 use Rattle.grammar.specs.declared.fault.GrammarFault.{GrammarFault}

@@ -6,6 +6,5 @@ pub mod Spots
 pub mod Law
 pub mod Operands
 pub mod Statements
-pub mod Parsers
 pub mod Ranges
 pub mod Reading

@@ -1,5 +1,5 @@
 -- An operand that is read leads on to the operands behind it.
-use Rattle.std.proofs.Common.{◌≡◌, ℕ, Bool, true, false, cond, List, [], ◌∷◌, ◌++◌, length, ℤ, Some, None, Ok, Err, Option, Result, sym, refl, ap, ◌∙◌, subst, arith}
+use Rattle.std.proofs.Common.{◌≡◌, ℕ, Bool, true, false, cond, List, [], ◌∷◌, ◌++◌, length, ℤ, Ok, Err, Result, sym, refl, ap, ◌∙◌, arith}
 use Rattle.words.specs.declared.fault.Source.{Source}
 use Rattle.words.specs.declared.name.Ident.{Ident}
 use Rattle.words.specs.Signs.{Sign, Word, Numeral}
@@ -9,7 +9,7 @@ use Rattle.grammar.specs.declared.fault.GrammarFault.{GrammarFault}
 use Rattle.grammar.specs.declared.fault.GrammarFault.TheVariants as fault
 use Rattle.grammar.specs.declared.feed.Feed.{Feed}
 use Rattle.grammar.specs.Feeds.{left, source_in, fetched, Moved}
-use Rattle.grammar.specs.Table.{run, after, among, in_name, in_number, picked}
+use Rattle.grammar.specs.Table.{run, after, among, in_name, picked}
 use Rattle.script_syntax.specs.declared.opcode.Opcode.{Opcode}
 use Rattle.script_syntax.specs.Numbers.{value_of, is_in_range}
 use Rattle.script_syntax.specs.Opcodes.{Kind}

@@ -1,8 +1,6 @@
 -- A file with no word at fault keeps the limits, its numbers are in their ranges, and no name stands twice.
-use Rattle.std.proofs.Common.{◌≡◌, ℕ, zero, suc, ◌<◌, ◌≤◌, Bool, true, false, List, [], ◌∷◌, ◌++◌, map, length, get_or, ℤ, pos, negsuc, ◌≤ℤ◌, sym, refl, ap, ◌∙◌, subst, inl, inr, append_assoc, append-nil, le_of_suc-le-suc, arith}
+use Rattle.std.proofs.Common.{◌≡◌, ℕ, zero, suc, ◌<◌, ◌≤◌, Bool, true, false, List, [], ◌∷◌, ◌++◌, map, length, get_or, ℤ, pos, negsuc, ◌≤ℤ◌, sym, refl, ap, ◌∙◌, subst, inl, inr, append_assoc, arith}
 use lib.ListN.{length-map, get_or-map}
-use lib.Signed.{le_z}
-use Rattle.words.specs.declared.name.Ident.{Ident}
 use Rattle.words.specs.declared.word.Keyword.TheVariants as k
 use Rattle.words.specs.declared.word.Mark.TheVariants as m
 use Rattle.words.specs.Signs.{Sign, Numeral}
@@ -15,14 +13,13 @@ use Rattle.grammar.proofs.Exact.{clean_at}
 use Rattle.grammar.proofs.Spelled.{each_append, each_mapped, at_most, few}
 use Rattle.script_syntax.specs.declared.opcode.Opcode.{Opcode}
 use Rattle.script_syntax.specs.declared.opcode.Opcode.TheVariants as o
-use Rattle.script_syntax.specs.declared.tree.Statement.{Statement}
 use Rattle.script_syntax.specs.declared.tree.Statement.TheVariants as t
 use Rattle.script_syntax.specs.Numbers.{value_of, is_in_range, natural_of}
 use Rattle.script_syntax.specs.Opcodes.{word_of, Kind, kinds}
 use Rattle.script_syntax.specs.Opcodes as j
 use Rattle.script_syntax.specs.Trees.{ProcessParts, no_process, Within, Ranged, Distinct}
 use Rattle.script_syntax.specs.Grammar.{StatementTree, ProcessTree, Operands, Formed, FormedAll, Spells, numeral_in, typed, statement_of, statement_words, head_words, process_words, file_words, process_parts, parts_of}
-use Rattle.script_syntax.specs.Laws.{Family, processes, Held, Clean}
+use Rattle.script_syntax.specs.Laws.{processes, Held, Clean}
 use Rattle.script_syntax.proofs.Steps.{operands_push, out_of_range_lem, parts-named}
 
 -- the numbers of an instruction whose operands are in their ranges

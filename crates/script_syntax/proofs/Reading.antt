@@ -1,7 +1,7 @@
 -- From the table's answer to the laws.
-use Rattle.std.proofs.Common.{◌≡◌, ℕ, List, [], IfOk, Ok, Err, Result, sym, subst}
+use Rattle.std.proofs.Common.{◌≡◌, ℕ, List, [], IfOk, Ok, Err, Result, sym, ap, ◌∙◌, subst}
 use Rattle.words.specs.declared.fault.Source.TheVariants.{Scripts}
-use Rattle.words.specs.Stream.{words_of}
+use Rattle.words.specs.Stream.{Stream, words_of}
 use Rattle.words.proofs.Streams.{stream_well_placed}
 use Rattle.grammar.specs.declared.fault.GrammarFault.{GrammarFault}
 use Rattle.grammar.specs.Laws.{signs}
@@ -13,17 +13,23 @@ use Rattle.script_syntax.specs.Trees.{parts, Ranged, Distinct}
 use Rattle.script_syntax.proofs.Law.{right, exact}
 use Rattle.script_syntax.proofs.Ranges.{ranged, distinct}
 
-module _ (text : List ℕ) (r : Result Tree GrammarFault) (e : outcome r ≡ run ask Scripts (start []) (words_of text)) where
+ranged_if : (ws : Stream) (r : Result Tree GrammarFault) → Right ws (outcome r) → IfOk r (λ t. Ranged (parts t))
+ranged_if ws (Ok t) h = subst Ranged (sym h.6) (ranged (signs h.0) h.2 h.5 h.4)
+ranged_if ws (Err f) h = tt
+
+distinct_if : (ws : Stream) (r : Result Tree GrammarFault) → Right ws (outcome r) → IfOk r (λ t. Distinct (parts t))
+distinct_if ws (Ok t) h = subst Distinct (sym h.6) (distinct (signs h.0) h.2 h.5 h.4)
+distinct_if ws (Err f) h = tt
+
+module _ (text : List ℕ) (ws : Stream) (r : Result Tree GrammarFault) (e : outcome r ≡ run ask Scripts (start []) ws) (f : ws ≡ words_of text) where
   pub right_of : Right (words_of text) (outcome r)
-  right_of = subst (λ o. Right (words_of text) o) (sym e) (right (words_of text) (stream_well_placed text 0 0))
+  right_of = subst (λ o. Right (words_of text) o) (sym (e ∙ ap (run ask Scripts (start [])) f)) (right (words_of text) (stream_well_placed text 0 0))
 
   pub exact_of : Exact (words_of text) (outcome r)
   exact_of = exact (words_of text) (outcome r) right_of
 
-pub ranged_of : (text : List ℕ) (r : Result Tree GrammarFault) → Right (words_of text) (outcome r) → IfOk r (λ t. Ranged (parts t))
-ranged_of text (Ok t) h = subst Ranged (sym h.6) (ranged (signs h.0) h.2 h.5 h.4)
-ranged_of text (Err f) h = tt
+  pub ranged_of : IfOk r (λ t. Ranged (parts t))
+  ranged_of = ranged_if (words_of text) r right_of
 
-pub distinct_of : (text : List ℕ) (r : Result Tree GrammarFault) → Right (words_of text) (outcome r) → IfOk r (λ t. Distinct (parts t))
-distinct_of text (Ok t) h = subst Distinct (sym h.6) (distinct (signs h.0) h.2 h.5 h.4)
-distinct_of text (Err f) h = tt
+  pub distinct_of : IfOk r (λ t. Distinct (parts t))
+  distinct_of = distinct_if (words_of text) r right_of

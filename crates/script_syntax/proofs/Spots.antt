@@ -1,12 +1,12 @@
 -- What the checks mean: ranges of numbers (5), limits (6) and second names (7).
-use Rattle.std.proofs.Common.{◌≡◌, ℕ, ◌≤◌, Bool, true, false, cond, leb, List, [], ◌∷◌, ◌++◌, map, length, ℤ, ◌≤ℤ◌, Some, None, Option, sym, refl, ap, ◌∙◌, subst, inl, inr, append-nil, arith, le-leb}
+use Rattle.std.proofs.Common.{◌≡◌, ℕ, ◌≤◌, Bool, true, false, cond, List, [], ◌∷◌, ◌++◌, length, ℤ, Some, sym, refl, ap, ◌∙◌, inl, inr, append-nil, arith, le-leb}
 use lib.ListN.{length-map}
 use lib.Signed.{le_z}
 use Rattle.words.specs.declared.name.Ident.{Ident}
 use Rattle.words.specs.Signs.{Sign, Numeral}
 use Rattle.words.specs.Signs as s
 use Rattle.grammar.specs.Laws.{Limit, range, room, once, limit_number}
-use Rattle.grammar.specs.Table.{Check, fine, crowded, out_of_range, Turn, admission, new, opt, first_of, among}
+use Rattle.grammar.specs.Table.{fine, crowded, out_of_range, admission, new, among}
 use Rattle.grammar.proofs.Admissions.{level_beyond, level_second}
 use Rattle.grammar.proofs.Grammars.{check_level, level}
 use Rattle.script_syntax.specs.declared.opcode.Opcode.{Opcode}
@@ -14,9 +14,8 @@ use Rattle.script_syntax.specs.declared.opcode.Opcode.TheVariants as o
 use Rattle.script_syntax.specs.Numbers.{value_of, is_in_range}
 use Rattle.script_syntax.specs.Opcodes.{word_of, kinds}
 use Rattle.script_syntax.specs.Opcodes as j
-use Rattle.script_syntax.specs.Trees.{ProcessParts}
 use Rattle.script_syntax.specs.Grammar.{statement_of, head_words, parts_of}
-use Rattle.script_syntax.specs.Laws.{Family, processes, Operand, Outside, Crowded, Held}
+use Rattle.script_syntax.specs.Laws.{Family, processes, Operand, Outside, Held}
 use Rattle.script_syntax.specs.Machine.{At, Progress, ask, spare, ranged}
 use Rattle.script_syntax.specs.Machine as q
 use Rattle.script_syntax.proofs.Trails.{Inside, progress}

@@ -1,16 +1,14 @@
 -- Each word that may stand next: the trees that it leads to, the words so far, and what a check says of it.
-use Rattle.std.proofs.Common.{◌≡◌, ℕ, ◌≤◌, Bool, true, false, cond, T, leb, List, [], ◌∷◌, ◌++◌, map, length, ℤ, ◌≤ℤ◌, Some, None, Option, sym, refl, ap, ◌∙◌, subst, inl, inr, append_assoc, append-nil, arith, leb-true}
+use Rattle.std.proofs.Common.{◌≡◌, ℕ, Bool, true, false, cond, leb, List, [], ◌∷◌, ◌++◌, map, length, ℤ, Some, None, Option, sym, refl, ap, ◌∙◌, subst, inl, inr, append_assoc, append-nil, arith, leb-true}
 use lib.ListN.{length-map}
-use lib.Signed.{le_z}
 use Rattle.words.specs.declared.name.Ident.{Ident}
 use Rattle.words.specs.declared.word.Keyword.{Keyword}
 use Rattle.words.specs.declared.word.Keyword.TheVariants as k
 use Rattle.words.specs.Signs.{Sign, Numeral}
 use Rattle.words.specs.Signs as s
-use Rattle.grammar.specs.Laws.{range, room}
-use Rattle.grammar.specs.Table.{Check, crowded, fine, out_of_range, new, opt, admission}
+use Rattle.grammar.specs.Table.{crowded, fine, out_of_range, new, opt, admission}
 use Rattle.grammar.proofs.Admissions.{told as admitted}
-use Rattle.grammar.proofs.Grammars.{Says, Steps, Onto}
+use Rattle.grammar.proofs.Grammars.{Says, Steps}
 use Rattle.grammar.proofs.Spelled.{each-push, pushed}
 use Rattle.grammar.proofs.Tables.{Edges, Of}
 use Rattle.script_syntax.specs.declared.opcode.Opcode.{Opcode}
@@ -19,7 +17,7 @@ use Rattle.script_syntax.specs.Numbers.{value_of, is_in_range}
 use Rattle.script_syntax.specs.Opcodes.{word_of, Kind, kinds, opcode_of}
 use Rattle.script_syntax.specs.Opcodes as j
 use Rattle.script_syntax.specs.Grammar.{StatementTree, ProcessTree, Operands, Stands, Spells, head_words, file_words, statement_of, parts_of}
-use Rattle.script_syntax.specs.Laws.{Family, processes, Operand, Outside, Crowded, Held}
+use Rattle.script_syntax.specs.Laws.{Family, processes, Outside, Held}
 use Rattle.script_syntax.specs.Machine.{ask, spare, ranged}
 use Rattle.script_syntax.specs.Machine as q
 use Rattle.script_syntax.proofs.Trails.{Inside, Trail, start, heading, opening, body, operands, more, spelled, progress, at, all_push, process_of, with_statement, add_statement, end-process}

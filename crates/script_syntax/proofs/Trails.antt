@@ -1,5 +1,5 @@
 -- How far a script file has been read, with the trees of what was read.
-use Rattle.std.proofs.Common.{◌≡◌, List, [], ◌∷◌, ◌++◌, map, sym, refl, ap, ◌∙◌}
+use Rattle.std.proofs.Common.{◌≡◌, List, [], ◌∷◌, ◌++◌, map, sym, ap}
 use Rattle.std.proofs.lemmas.List.{map_push}
 use Rattle.words.specs.declared.name.Ident.{Ident}
 use Rattle.words.specs.declared.word.Keyword.TheVariants as k
@@ -8,7 +8,6 @@ use Rattle.words.specs.Signs as s
 use Rattle.script_syntax.specs.declared.opcode.Opcode.{Opcode}
 use Rattle.script_syntax.specs.declared.tree.Statement.{Statement}
 use Rattle.script_syntax.specs.Opcodes.{word_of, Kind, kinds}
-use Rattle.script_syntax.specs.Trees.{ProcessParts}
 use Rattle.script_syntax.specs.Grammar.{StatementTree, ProcessTree, Operands, Formed, FormedAll, head_words, file_words, statement_of, process_parts, parts_of}
 use Rattle.script_syntax.specs.Machine.{At, Progress, begun, added, ended}
 use Rattle.script_syntax.specs.Machine as q

@@ -8,7 +8,7 @@
 --   operand p op xs ks the word that may stand next as an operand
 --   ask q              the words that may stand next
 --   reading q from     what becomes of the file of which the feed has the rest, at q
-use Rattle.std.specs.Prelude.{ℕ, cond, List, [], ◌∷◌, ◌++◌, map, length, ℤ, Result, nat_le}
+use Rattle.std.specs.Prelude.{cond, List, [], ◌∷◌, ◌++◌, map, length, ℤ, Result, nat_le}
 use Rattle.words.specs.declared.name.Ident.{Ident}
 use Rattle.words.specs.declared.word.Keyword.TheVariants as k
 use Rattle.words.specs.declared.word.Mark.TheVariants as m
@@ -17,7 +17,7 @@ use Rattle.words.specs.Signs as s
 use Rattle.grammar.specs.declared.fault.GrammarFault.{GrammarFault}
 use Rattle.grammar.specs.declared.feed.Feed.{Feed}
 use Rattle.grammar.specs.Feeds.{left, source_in}
-use Rattle.grammar.specs.Table.{Check, fine, crowded, out_of_range, Turn, go, new, accept, Alt, key, keys, mark, name, number, end, opt, admission, run}
+use Rattle.grammar.specs.Table.{Check, fine, crowded, out_of_range, go, new, accept, Alt, key, keys, mark, name, number, end, opt, admission, run}
 use Rattle.script_syntax.specs.declared.opcode.Opcode.{Opcode}
 use Rattle.script_syntax.specs.declared.tree.Statement.{Statement}
 use Rattle.script_syntax.specs.Numbers.{value_of, is_in_range}

@@ -7,7 +7,7 @@
 --   Within x          the numbers of an instruction are in their ranges
 --   Ranged ps         numbers are in range: one to 8 processes, at most 64 instructions each
 --   Distinct ps       no two processes have one name
-use Rattle.std.specs.Prelude.{◌≡◌, ℕ, ◌<◌, ◌≤◌, List, [], ◌∷◌, map, length, get_or, take, ℤ, pos, negsuc, ◌≤ℤ◌, slice_index_or}
+use Rattle.std.specs.Prelude.{◌≡◌, ℕ, ◌<◌, ◌≤◌, List, [], map, length, get_or, take, pos, negsuc, ◌≤ℤ◌, slice_index_or}
 use Rattle.words.specs.declared.name.Ident.{Ident}
 use Rattle.grammar.specs.Families.{no_ident}
 use Rattle.grammar.specs.Rows.{row_items}

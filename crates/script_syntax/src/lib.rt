@@ -1,5 +1,6 @@
 // Script files from words to a tree, whose names and distances keep their places.
 #![tactic(auto)]
+
 ghost use Rattle.std.specs.Prelude.{◌≡◌, ◌<◌, ◌≤◌, [], length, IfOk, Err};
 ghost use Rattle.words.specs.declared.fault.Source.TheVariants as sources;
 ghost use Rattle.words.specs.Reading.{too_large};

@@ -1,6 +1,4 @@
 use Rattle.std.proofs.Common.{◌≡◌, ℕ, map, sym, refl, ◌∙◌, arith}
-use Rattle.std.proofs.lemmas.List.{at_drop_all}
-use Rattle.grammar.specs.Table.{known}
 use Rattle.script_syntax.specs.Trees.{process_of}
 use Rattle.grammar.proofs.Names.{known_here, known_more}
 use Rattle.script_syntax.proofs.family.has_process.Goals as goal
@@ -15,6 +13,3 @@ loop-x-preserved c =
     sym (known_more (λ x. x.ident) (λ l. map (λ x. x.ident) (map process_of l)) (λ _ _. refl) c.args.ident c.args.all.now c.loop-x.x-index _ c.loop-x-test.true
     (λ e. let t = c.same.ensures.1 e in let f = c.if-same.false in let z : ◌≡◌ {A = ℕ} 0 1 = cc in omega arith))
     ∙ c.loop-x.invariant
-
-pub returns : goal.returns
-returns c = sym (at_drop_all (λ l. known c.args.ident (map (λ x. x.ident) (map process_of l))) c.args.all.now c.loop-x.x-index c.loop-x-test.false) ∙ c.loop-x.invariant
