@@ -5,6 +5,7 @@ pub mod Back
 pub mod Spots
 pub mod Law
 pub mod Operands
+pub mod Lines
 pub mod Statements
 pub mod Ranges
 pub mod Reading
