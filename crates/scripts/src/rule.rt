@@ -42,7 +42,7 @@ pub(crate) fn statements(processes: &[Process], p: usize) -> &[Statement]
 // Where the first of these statements that breaks the rule does so.
 fn first_in<R: Rule>(rule: &R, contracts: &ContractSet, statements: &[Statement]) -> Option<Span>
     requires { length statements.now ≤ 64 }
-    ensures { MatchOption result (KeptIn (breaks (tables_in contracts.now)) statements.now) (FirstIn (breaks (tables_in contracts.now)) statements.now) }
+    ensures { MatchOption result (KeptIn (R.breaks (tables_in contracts.now)) statements.now) (FirstIn (R.breaks (tables_in contracts.now)) statements.now) }
 {
     for i in 0..statements.len() {
         if let Some(span) = rule.fault(contracts, statements.len(), i, statements[i]) {
@@ -59,7 +59,7 @@ pub(crate) fn earliest<R: Rule>(
     processes: &[Process],
 ) -> Option<Span>
     requires { (p : ℕ) → length (statements_of (map process_of processes.now) p) ≤ 64 }
-    ensures { MatchOption result (KeptBy (breaks (tables_in contracts.now)) (map process_of processes.now)) (Earliest (breaks (tables_in contracts.now)) (map process_of processes.now)) }
+    ensures { MatchOption result (KeptBy (R.breaks (tables_in contracts.now)) (map process_of processes.now)) (Earliest (R.breaks (tables_in contracts.now)) (map process_of processes.now)) }
 {
     for p in 0..processes.len() {
         if let Some(span) = first_in(rule, contracts, statements(processes, p)) {

@@ -35,7 +35,7 @@ pub returns-in-Some-earliest : goal.returns-in-Some-earliest
 returns-in-Some-earliest c = record {
   answer = subst (λ (ps : List ProcessParts). Faulty (tables_in c.args.contracts.now) ps (f.JumpOutside c.in-Some-earliest.span))
       (same_parts c.args.tree.now _ c.processes-processes.ensures)
-      («jump-outside» c.in-Some-earliest.span (all-declared _ _ _ c.in-Ok.ensures) c.in-default.ensures c.in-Some-earliest.ensures refl);
+      («jump-outside» c.in-Some-earliest.span (all-declared _ _ _ c.in-Ok.ensures) c.in_default.ensures c.in-Some-earliest.ensures refl);
   sound = tt;
 }
 
@@ -44,7 +44,7 @@ returns c =
     let kept = subst (λ (ps : List ProcessParts). Kept (tables_in c.args.contracts.now) ps (scripts_of (row_items c.in-Ok.all)))
     (same_parts c.args.tree.now _ c.processes-processes.ensures)
     (record {
-      keeps = record { declared = all-declared _ _ _ c.in-Ok.ensures; payloads = c.in-default.ensures; jumps = c.in-default-earliest.ensures };
+      keeps = record { declared = all-declared _ _ _ c.in-Ok.ensures; payloads = c.in_default.ensures; jumps = c.in_default-earliest.ensures };
       scripts = c.in-Ok.ensures;
     })
     in record { answer = kept; sound = sound (tables_in c.args.contracts.now) (parts c.args.tree.now) _ c.requires.ranged c.requires.distinct kept }

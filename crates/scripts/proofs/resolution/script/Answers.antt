@@ -10,8 +10,8 @@ use Rattle.scripts.proofs.resolution.script.Goals as goal
 pub loop-i-preserved : goal.loop-i-preserved
 loop-i-preserved c = (
   length-set _ _ _ ∙ c.loop-i.invariant.0,
-  each_set (λ j y. Resolves (tables_in c.args.contracts.now) (get_or c.args.statements.now j s.End) y) End c.loop-i.instructions c.in-ok-next.next c.loop-i.i
-      (omega (arith, c.loop-i.invariant.0, c.requires)) c.loop-i.invariant.1 c.in-ok-next.ensures,
+  each_set (λ j y. Resolves (tables_in c.args.contracts.now) (get_or c.args.statements.now j s.End) y) End c.loop-i.instructions c.in_ok-next.next c.loop-i.i
+      (omega (arith, c.loop-i.invariant.0, c.requires)) c.loop-i.invariant.1 c.in_ok-next.ensures,
 )
 
 pub returns : goal.returns

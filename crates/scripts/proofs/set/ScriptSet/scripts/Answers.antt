@@ -4,4 +4,4 @@ use Rattle.scripts.proofs.Seen.{count_is}
 use Rattle.scripts.proofs.set.ScriptSet.scripts.Goals as goal
 
 pub returns : goal.returns
-returns c = record { scripts = ap scripts_of c.as-slice.ensures; count = count_is _ _ c.as-slice.ensures }
+returns c = record { scripts = ap scripts_of c.as_slice.ensures; count = count_is _ _ c.as_slice.ensures }

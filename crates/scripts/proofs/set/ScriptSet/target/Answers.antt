@@ -6,18 +6,18 @@ use Rattle.scripts.proofs.Jumped.{no_jump, target_of}
 use Rattle.scripts.proofs.Opened.{opened}
 use Rattle.scripts.proofs.set.ScriptSet.target.Goals as goal
 
-pub returns-in-err-count : goal.returns-in-err-count
-returns-in-err-count c = record {
-  answer = rw c.from-residual.ensures (no_jump (scripts_in c.args.self.now) c.args.process c.args.i c.in-err-count.ensures.answer);
+pub returns-in_err-count : goal.returns-in_err-count
+returns-in_err-count c = record {
+  answer = rw c.from_residual.ensures (no_jump (scripts_in c.args.self.now) c.args.process c.args.i c.in_err-count.ensures.answer);
 }
 
 pub returns : goal.returns
 returns c =
     let set = c.args.self.now in
-    let found = c.in-ok-instruction.ensures.answer in
-    let fits : SFits w16 c.in-ok-distance.distance = search rules in
+    let found = c.in_ok-instruction.ensures.answer in
+    let fits : SFits w16 c.in_ok-distance.distance = search rules in
     record {
-      answer = target_of (tables_in set.contracts) (scripts_in set) c.args.process c.args.i c.in-ok-instruction.instruction c.in-ok-distance.distance found.0 found.1
-          c.in-ok-distance.ensures c.in-ok-count.count _ c.target.result c.in-ok-count.ensures.answer.1 (to_z-of_z w16 _ fits)
+      answer = target_of (tables_in set.contracts) (scripts_in set) c.args.process c.args.i c.in_ok-instruction.instruction c.in_ok-distance.distance found.0 found.1
+          c.in_ok-distance.ensures c.in_ok-count.count _ c.target.result c.in_ok-count.ensures.answer.1 (to_z-of_z w16 _ fits)
           (opened _ _ c.args.i _ (set.runnable (record { process = c.args.process; index = c.args.i; within = found.0 }))) c.target.ensures;
     }
