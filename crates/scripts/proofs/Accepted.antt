@@ -1,7 +1,7 @@
 -- The scripts of a file that keeps every rule make a set.
 --   runnable-from     a statement in its ranges that breaks no rule is runnable, with numbers in place of names
 --   sound             so are the scripts of a file
-use Rattle.std.proofs.Common.{◌≡◌, ℕ, ◌<◌, ◌≤◌, List, length, get_or, ℤ, sym, refl, ◌∙◌, subst, inl, inr, arith}
+use Rattle.std.proofs.Common.{◌≡◌, ℕ, ◌<◌, ◌≤◌, List, length, get_or, sym, refl, ◌∙◌, subst, inl, inr, arith}
 use Rattle.std.proofs.lemmas.Bool.{cases_lt}
 use Rattle.words.specs.declared.fault.Span.{Span}
 use Rattle.contracts.specs.declared.declaration.Payload.{Payload}
@@ -9,7 +9,7 @@ use Rattle.contracts.specs.declared.declaration.Payload.TheVariants as p
 use Rattle.contracts.specs.declared.table.Table.{Table}
 use Rattle.script_syntax.specs.declared.tree.Statement.{Statement}
 use Rattle.script_syntax.specs.declared.tree.Statement.TheVariants as s
-use Rattle.script_syntax.specs.Trees.{Distinct, no_process, ProcessParts, Ranged, Within}
+use Rattle.script_syntax.specs.Trees.{Distinct, ProcessParts, Ranged, Within}
 use Rattle.scripts.specs.declared.instruction.Instruction.{Instruction}
 use Rattle.scripts.specs.declared.instruction.Instruction.TheVariants.{End}
 use Rattle.scripts.specs.Jumps.{JumpOutside}

@@ -1,7 +1,6 @@
 -- Where the jumps of a set lead.
---   no_jump        past the last process there is no jump
 --   target_of      the target that the code computes is that of the jump
-use Rattle.std.proofs.Common.{◌≡◌, ℕ, ◌<◌, ◌≤◌, List, length, ℤ, pos, ◌+ℤ◌, Some, None, Option, sym, ap, ◌∙◌, subst, arith, MatchOption}
+use Rattle.std.proofs.Common.{◌≡◌, ℕ, ◌<◌, ◌≤◌, List, length, ℤ, pos, ◌+ℤ◌, Some, None, Option, sym, ap, ◌∙◌, subst, MatchOption}
 use Rattle.contracts.specs.declared.table.Table.{Table}
 use Rattle.scripts.specs.declared.instruction.Instruction.{Instruction}
 use Rattle.scripts.specs.Jumps.{Lands}
@@ -10,10 +9,6 @@ use Rattle.scripts.specs.Runnable.{Runnable}
 use Rattle.scripts.specs.Scripts.{instructions_of, ScriptParts}
 use Rattle.scripts.specs.View.{instruction_at, JumpAt, TargetOf}
 use Rattle.scripts.proofs.Opened.{jump_lands}
-use Rattle.scripts.proofs.Seen.{no_instruction}
-
-pub no_jump : (ss : List ScriptParts) (p i : ℕ) → length ss ≤ p → TargetOf ss p i None
-no_jump ss p i past d at = omega (arith, no_instruction ss p i past, at.0)
 
 module _ (ts : List Table) (ss : List ScriptParts) (p i : ℕ) (y : Instruction) (d : ℤ) (within : i < length (instructions_of ss p)) (read : y ≡ instruction_at ss p i)
     (far : Some d ≡ distance_of y) where

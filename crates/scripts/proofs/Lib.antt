@@ -1,6 +1,5 @@
 pub mod Accepted
 pub mod Checked
-pub mod Each
 pub mod Jumped
 pub mod Opened
 pub mod Parted

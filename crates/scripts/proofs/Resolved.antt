@@ -5,12 +5,11 @@
 --   all-declared      so it is with the processes of a file
 --   script_as         a script as the code makes it is that of the process
 --   scripts-more      one script more
-use Rattle.std.proofs.Common.{◌≡◌, ℕ, ◌+◌, ◌<◌, List, [], ◌∷◌, ◌++◌, map, length, get_or, sym, refl, ap, ◌∙◌, subst, inl, inr, arith}
+use Rattle.std.proofs.Common.{◌≡◌, ℕ, ◌+◌, List, [], ◌∷◌, ◌++◌, map, get_or, sym, ap, ◌∙◌, subst, inl, inr, arith}
 use Rattle.std.proofs.lemmas.List.{map-append}
 use Rattle.std.proofs.lemmas.Bool.{cases_lt}
 use Rattle.words.specs.declared.fault.Span.{Span}
 use Rattle.words.specs.declared.name.Ident.{Ident}
-use Rattle.words.specs.declared.name.Name.{Name}
 use Rattle.contracts.specs.declared.table.Table.{Table}
 use Rattle.contracts.specs.Rules.{First}
 use Rattle.contracts.proofs.Numbered.{EachBelow, pushed}

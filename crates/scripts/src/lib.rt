@@ -1,5 +1,6 @@
 // The rules on scripts, and the sets of scripts that keep them, each with the contract set that it was read against.
 #![tactic(auto)]
+
 pub mod check;
 pub mod fault;
 mod front;

@@ -1,7 +1,6 @@
-use Rattle.std.proofs.Common.{List, sym, refl, subst}
-use Rattle.std.proofs.lemmas.List.{length-map}
+use Rattle.std.proofs.Common.{List, refl, subst}
 use Rattle.contracts.specs.View.{tables_in}
-use Rattle.script_syntax.specs.Trees.{parts, ProcessParts, Ranged}
+use Rattle.script_syntax.specs.Trees.{parts, ProcessParts}
 use Rattle.grammar.specs.Rows.{row_items}
 use Rattle.scripts.specs.declared.fault.ScriptFault.TheVariants as f
 use Rattle.scripts.specs.Judgement.{Faulty, «jump-outside», Kept, undeclared, «wrong-payload»}
@@ -11,33 +10,22 @@ use Rattle.scripts.proofs.Parted.{same_parts}
 use Rattle.scripts.proofs.Resolved.{all-declared}
 use Rattle.scripts.proofs.judge.judge.Goals as goal
 
-pub scripts-requires : goal.scripts-requires
-scripts-requires c =
-    let ranged = subst Ranged (sym (same_parts c.args.tree.now _ c.processes-processes.ensures)) c.requires.ranged in
-    record { few = simp length-map at ranged.few; short = ranged.short }
+pub returns-in-Err-clause-answer : goal.returns-in-Err-clause-answer
+returns-in-Err-clause-answer c =
+    subst (λ (ps : List ProcessParts). Faulty (tables_in c.args.contracts.now) ps (f.Undeclared c.in-Err.span))
+    (same_parts c.args.tree.now _ c.processes-processes.ensures) (undeclared c.in-Err.span c.in-Err.ensures refl)
 
-pub returns-in-Err : goal.returns-in-Err
-returns-in-Err c = record {
-  answer = subst (λ (ps : List ProcessParts). Faulty (tables_in c.args.contracts.now) ps (f.Undeclared c.in-Err.span))
-      (same_parts c.args.tree.now _ c.processes-processes.ensures) (undeclared c.in-Err.span c.in-Err.ensures refl);
-  sound = tt;
-}
+pub returns-in-Some-clause-answer : goal.returns-in-Some-clause-answer
+returns-in-Some-clause-answer c =
+    subst (λ (ps : List ProcessParts). Faulty (tables_in c.args.contracts.now) ps (f.WrongPayload c.in-Some.span))
+    (same_parts c.args.tree.now _ c.processes-processes.ensures)
+    («wrong-payload» c.in-Some.span (all-declared _ _ _ c.in-Ok.ensures) c.in-Some.ensures refl)
 
-pub returns-in-Some : goal.returns-in-Some
-returns-in-Some c = record {
-  answer = subst (λ (ps : List ProcessParts). Faulty (tables_in c.args.contracts.now) ps (f.WrongPayload c.in-Some.span))
-      (same_parts c.args.tree.now _ c.processes-processes.ensures)
-      («wrong-payload» c.in-Some.span (all-declared _ _ _ c.in-Ok.ensures) c.in-Some.ensures refl);
-  sound = tt;
-}
-
-pub returns-in-Some-earliest : goal.returns-in-Some-earliest
-returns-in-Some-earliest c = record {
-  answer = subst (λ (ps : List ProcessParts). Faulty (tables_in c.args.contracts.now) ps (f.JumpOutside c.in-Some-earliest.span))
-      (same_parts c.args.tree.now _ c.processes-processes.ensures)
-      («jump-outside» c.in-Some-earliest.span (all-declared _ _ _ c.in-Ok.ensures) c.in_default.ensures c.in-Some-earliest.ensures refl);
-  sound = tt;
-}
+pub returns-in-Some-earliest-clause-answer : goal.returns-in-Some-earliest-clause-answer
+returns-in-Some-earliest-clause-answer c =
+    subst (λ (ps : List ProcessParts). Faulty (tables_in c.args.contracts.now) ps (f.JumpOutside c.in-Some-earliest.span))
+    (same_parts c.args.tree.now _ c.processes-processes.ensures)
+    («jump-outside» c.in-Some-earliest.span (all-declared _ _ _ c.in-Ok.ensures) c.in_default.ensures c.in-Some-earliest.ensures refl)
 
 pub returns : goal.returns
 returns c =

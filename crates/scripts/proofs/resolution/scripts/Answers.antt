@@ -1,4 +1,4 @@
-use Rattle.std.proofs.Common.{◌<◌, List, map, length, get_or, refl, subst, arith}
+use Rattle.std.proofs.Common.{◌<◌, List, map, length, get_or, subst, arith}
 use Rattle.std.proofs.lemmas.List.{length-map}
 use Rattle.std.proofs.lemmas.Result.{err_from_is_err_and}
 use Rattle.contracts.specs.View.{tables_in}
@@ -26,6 +26,3 @@ loop-p-preserved c =
     let room : length (row_items c.loop-p.all) < 8 = omega (arith, simp length-map at c.loop-p.invariant.0) in
     scripts-more (λ q y. ScriptAs (tables_in c.args.contracts.now) (get_or (map process_of c.args.processes.now) q no_process) y) (row_items c.loop-p.all) (row_items c.push.new.self) c.in_ok-next.next c.loop-p.p c.loop-p.invariant (c.push.ensures.room room).1
     (script_as (tables_in c.args.contracts.now) c.args.processes.now c.loop-p.p c.in_ok-next.next _ c.in_ok-next.ensures.0 c.statements.ensures c.in_ok-next.ensures.1)
-
-pub returns : goal.returns
-returns c = record { count = simp length-map (omega (arith, simp length-map at c.loop-p.invariant.0)); each = λ p l. c.loop-p.invariant.1 p (omega (arith, simp length-map at l)) }

@@ -1,4 +1,4 @@
-use Rattle.std.proofs.Common.{◌≡◌, ℕ, ◌<◌, map, length, get_or}
+use Rattle.std.proofs.Common.{map, get_or}
 use Rattle.contracts.specs.View.{tables_in}
 use Rattle.script_syntax.specs.Trees.{no_process, process_of}
 use Rattle.grammar.specs.Rows.{row_items}

@@ -1,15 +1,10 @@
-use Rattle.std.proofs.Common.{sym, w16, SFits, rules}
+use Rattle.std.proofs.Common.{w16, SFits, rules}
 use Rattle.std.proofs.lemmas.Int.{to_z-of_z}
 use Rattle.contracts.specs.View.{tables_in}
 use Rattle.scripts.specs.View.{scripts_in}
-use Rattle.scripts.proofs.Jumped.{no_jump, target_of}
+use Rattle.scripts.proofs.Jumped.{target_of}
 use Rattle.scripts.proofs.Opened.{opened}
 use Rattle.scripts.proofs.set.ScriptSet.target.Goals as goal
-
-pub returns-in_err-count : goal.returns-in_err-count
-returns-in_err-count c = record {
-  answer = rw c.from_residual.ensures (no_jump (scripts_in c.args.self.now) c.args.process c.args.i c.in_err-count.ensures.answer);
-}
 
 pub returns : goal.returns
 returns c =
