@@ -5,7 +5,7 @@
 use contracts::check::check;
 use listing::accepted::list_contracts;
 use listing::refused::fault_line;
-use script_listing::scripts::list_scripts;
+use script_listing::accepted::list_scripts;
 use scripts::check::check as check_scripts;
 use std::alloc::{AllocError, Global};
 

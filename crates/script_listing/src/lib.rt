@@ -1,3 +1,4 @@
 // What people read of an accepted set of scripts.
 #![tactic(auto)]
-pub mod scripts;
+
+pub mod accepted;
