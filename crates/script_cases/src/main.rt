@@ -2,6 +2,7 @@
 // script text. Each line of the output is the answer, the fault or the listing with its lines joined by '|'. A line that begins
 // with '#' names what follows.
 #![tactic(auto)]
+
 use contracts::check::check;
 use listing::accepted::list_contracts;
 use listing::refused::fault_line;
