@@ -3,4 +3,3 @@ pub mod Spelled
 pub mod Lexemes
 pub mod Streams
 pub mod Fetched
-pub mod Names

@@ -1,19 +1,9 @@
 use Rattle.std.proofs.Common.{None, sym, subst, arith, below_more}
-use Rattle.std.proofs.lemmas.Bool.{both_ways}
 use Rattle.contracts.specs.Paths.{Leads, stay}
 use Rattle.contracts.specs.Rules.{AnyWay}
-use Rattle.contracts.proofs.Targets.{after_leads, leads_after}
+use Rattle.contracts.proofs.Targets.{leads_after}
 use Rattle.contracts.proofs.states.first_unreached.Goals as goal
 use Rattle.contracts.proofs.states.first_unreached.Goals.{else-s-ne0-via-then-s-ne0+else-not-seen-s, else-s-ne0-via-else-s-ne0}
-
-pub returns-then-not-seen-s : goal.returns-then-not-seen-s
-returns-then-not-seen-s c = (
-  (
-    c.loop-s-test.true,
-    λ h. both_ways _ c.if-not-seen-s.true ((c.after-seen.ensures c.loop-s.s).1 (after_leads c.args.t.now None c.loop-s.s c.if-s-ne0.true h)),
-  ),
-  λ k l h. h.1 (c.loop-s.invariant k l),
-)
 
 pub loop-s-preserved : goal.loop-s-preserved
 loop-s-preserved c =
