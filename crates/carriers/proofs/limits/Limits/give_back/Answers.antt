@@ -9,14 +9,3 @@ overflow_add-self c =
     let s = c.args.self.now in
     let found = c.in_ok-limit.ensures.answer in
     omega (arith, s.pool, limit_le_allotted s.limits c.args.b s.sizes found.0, ap limit_in found.1)
-
-pub invariant_of-self : goal.invariant_of-self
-invariant_of-self c =
-    let s = c.args.self.now in
-    let found = c.in_ok-limit.ensures.answer in (
-      length-set _ _ _ ∙ s.sizes,
-      (
-        low-set s.limits c.args.b s.sizes found.0 None s.low (omega arith),
-        (omega (arith, s.pool, allotted-set s.limits c.args.b s.sizes found.0 None, ap limit_in found.1), tt),
-      ),
-    )
