@@ -1,9 +1,7 @@
-use Rattle.std.proofs.Common.{◌≡◌, ◌<◌, length, get_or, ap, ◌∙◌, arith}
+use Rattle.std.proofs.Common.{ap}
 use Rattle.std.proofs.lemmas.Result.{err_from_is_err_and}
-use Rattle.std.proofs.lemmas.List.{get_or-set_same, get_or-set_other}
 use Rattle.carriers.specs.Rows.{queued}
 use Rattle.carriers.specs.Tables.{boxes_from}
-use Rattle.carriers.proofs.Drawing.{whole_returned, few_returned}
 use Rattle.carriers.specs.Tabled.{close_refused, close_done}
 use Rattle.carriers.specs.Copies.{few-queued}
 use Rattle.carriers.proofs.copying.Copying.close_box.Goals as goal

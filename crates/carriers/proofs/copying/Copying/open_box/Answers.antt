@@ -1,7 +1,6 @@
 use Rattle.carriers.specs.Rows.{queued}
 use Rattle.carriers.specs.Tabled.{open_answered}
 use Rattle.carriers.specs.Copies.{few-queued}
-use Rattle.carriers.proofs.Drawing.{drawn_or_not}
 use Rattle.carriers.proofs.copying.Copying.open_box.Goals as goal
 
 pub returns : goal.returns

@@ -1,7 +1,6 @@
-use Rattle.std.proofs.Common.{None, ap, ◌∙◌, arith}
-use Rattle.std.proofs.lemmas.List.{length-set}
+use Rattle.std.proofs.Common.{ap, arith}
 use Rattle.carriers.specs.Limits.{limit_in}
-use Rattle.carriers.proofs.Drawing.{low-set, allotted-set, limit_le_allotted}
+use Rattle.carriers.proofs.Drawing.{limit_le_allotted}
 use Rattle.carriers.proofs.limits.Limits.give_back.Goals as goal
 
 pub overflow_add-self : goal.overflow_add-self

@@ -1,8 +1,7 @@
-use Rattle.std.proofs.Common.{◌+◌, get_or, sym, refl, ap, ◌∙◌, arith}
-use Rattle.std.proofs.lemmas.List.{length-set}
-use Rattle.carriers.specs.Rows.{payload_of, slot_byte}
-use Rattle.carriers.specs.Bytes.{payload_of_byte, slot_byte_of, legible_written}
-use Rattle.carriers.specs.Queues.{few-set, spot_inside, queued-push, queued_push_other}
+use Rattle.std.proofs.Common.{sym, refl, ap, ◌∙◌}
+use Rattle.carriers.specs.Rows.{payload_of}
+use Rattle.carriers.specs.Bytes.{payload_of_byte}
+use Rattle.carriers.specs.Queues.{queued-push, queued_push_other}
 use Rattle.carriers.proofs.rows.Rows.push.Goals as goal
 
 pub returns : goal.returns
