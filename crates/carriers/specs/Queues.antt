@@ -1,7 +1,7 @@
 -- The messages of a row after one has been appended or taken, and those of the other rows.
 use Rattle.std.specs.Prelude.{◌≡◌, ℕ, ◌+◌, ◌-◌, ◌*◌, ◌<◌, ◌≤◌, ◌≢◌, List, [], ◌∷◌, ◌++◌, map, length, slice_index, slice_index_or, slice_set, refl}
 use Rattle.std.proofs.Common.{sym, ap, ◌∙◌, subst, inl, inr, arith, zero-add}
-use Rattle.std.specs.List.{range_with_len, AllByRecursion as All}
+use Rattle.std.specs.List.{range_with_len, AllByRecursion}
 use Rattle.std.proofs.lemmas.List.{get_or-set_same, get_or-set_other}
 use Rattle.std.proofs.lemmas.List.FromFn.{length-map-range_with_len, get_or-map-range_with_len}
 use Rattle.std.proofs.ByRecursion.{All-from_get_or}
@@ -15,7 +15,7 @@ use Rattle.carriers.specs.Bytes.{place_inside, place_apart, place-first, place-n
 pub length-queued : (ns fs bytes : List ℕ) (b : ℕ) → length (queued ns fs bytes b) ≡ slice_index ns b
 length-queued ns fs bytes b = length-map-range_with_len (λ k. message_at bytes b (place_of (slice_index fs b) k)) 0 (slice_index ns b)
 
-pub queued-ranged : (ns fs bytes : List ℕ) (b : ℕ) → Legible bytes → All Ranged (queued ns fs bytes b)
+pub queued-ranged : (ns fs bytes : List ℕ) (b : ℕ) → Legible bytes → AllByRecursion Ranged (queued ns fs bytes b)
 queued-ranged ns fs bytes b ok =
     let f : ℕ → Message = λ k. message_at bytes b (place_of (slice_index fs b) k) in
     All-from_get_or Ranged (queued ns fs bytes b) (f 0)
