@@ -6,8 +6,8 @@ use Rattle.carriers.specs.Tabled.{boxes_none}
 use Rattle.chained.specs.Chained.{blank, ranged_test, waiting}
 use Rattle.chained.proofs.chained.Chained.over.Goals as goal
 
-pub invariant-of-result : goal.invariant-of-result
-invariant-of-result c = (
+pub invariant_of-result : goal.invariant_of-result
+invariant_of-result c = (
   refl,
   (
     (λ i. ap ranged_test (get_d_equal 128 i blank)),

@@ -14,9 +14,9 @@ loop-i-preserved c =
           (get_or-set_same c.loop-i.next i (i + 1) 0 inside),
     )
 
-pub invariant-of-result : goal.invariant-of-result
+pub invariant_of-result : goal.invariant_of-result
 unfolding heads tails counts
-invariant-of-result c =
+invariant_of-result c =
     let links : (k : ℕ) → k < 127 → at c.loop-i.next k ≡ k + 1 = λ k h. c.loop-i.invariant.1 k (omega arith) in (
       (c.loop-i.invariant.0, refl, refl, refl),
       (below_fresh c.loop-i.next links, (apart_fresh c.loop-i.next links, (ends_fresh c.loop-i.next links, (total_fresh, tt)))),

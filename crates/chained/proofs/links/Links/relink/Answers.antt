@@ -11,8 +11,8 @@ bounds-self-spot c =
     c.requires.numbered.0 c.requires.numbered.1.0 c.requires.numbered.1.1 c.requires.some.0 c.requires.some.1 c.requires.last
     (λ e. (c.pick-head.ensures.0 e, c.pick-spot.ensures.0 e)) (λ q. (c.pick-head.ensures.1 q, c.pick-spot.ensures.1 q))
 
-pub overflow-add-self : goal.overflow-add-self
-overflow-add-self c =
+pub overflow_add-self : goal.overflow_add-self
+overflow_add-self c =
     omega (
       arith,
       count_fits c.args.self.now c.args.from c.args.to c.args.n c.args.last c.pick-head.result c.pick-spot.result
@@ -20,8 +20,8 @@ overflow-add-self c =
           (λ e. (c.pick-head.ensures.0 e, c.pick-spot.ensures.0 e)) (λ q. (c.pick-head.ensures.1 q, c.pick-spot.ensures.1 q)),
     )
 
-pub invariant-of-self : goal.invariant-of-self
-invariant-of-self c =
+pub invariant_of-self : goal.invariant_of-self
+invariant_of-self c =
     chains-kept c.args.self.now c.args.from c.args.to c.args.n c.args.last c.pick-head.result c.pick-spot.result
     c.requires.numbered.0 c.requires.numbered.1.0 c.requires.numbered.1.1 c.requires.some.0 c.requires.some.1 c.requires.last
     (λ e. (c.pick-head.ensures.0 e, c.pick-spot.ensures.0 e)) (λ q. (c.pick-head.ensures.1 q, c.pick-spot.ensures.1 q))
