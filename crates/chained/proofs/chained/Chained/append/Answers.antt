@@ -50,29 +50,26 @@ bounds-self-x c =
     let some = free_cell s.limits s.links s.messages s.few s.pool c.args.b c.in_ok-limit.limit found.0 found.1 (omega (arith, c.if-count-limit.false, c.count.ensures.answer)) in
     omega (arith, c.shift-x.ensures.first, s.links.below 64 0 (omega arith) some)
 
-pub invariant_of-self : goal.invariant_of-self
-invariant_of-self c =
+pub invariant_of-self-clause-ranged : goal.invariant_of-self-clause-ranged
+invariant_of-self-clause-ranged c =
     let s = c.args.self.now in
     let r = c.shift-x.new.self in
     let found = c.in_ok-limit.ensures.answer in
     let ranged = c.if-not-is_ranged.ensures.answer.0 refl in
     let some = free_cell s.limits s.links s.messages s.few s.pool c.args.b c.in_ok-limit.limit found.0 found.1 (omega (arith, c.if-count-limit.false, c.count.ensures.answer)) in
     let low = cell-low s.messages s.links r c.args.b c.shift-x.result c.args.message found.0 s.size some c.shift-x.ensures.first c.shift-x.ensures.moved in
-    let more = put_count s.messages s.links r c.args.b c.shift-x.result c.args.message found.0 s.size some c.shift-x.ensures.first c.shift-x.ensures.moved in (
-      length-set _ _ _ ∙ s.size,
-      (
-        ranged-set s.messages c.shift-x.result c.args.message low ranged s.ranged,
-        (
-          s.pool,
-          (
-            few_counted s.limits.limits c.args.b c.in_ok-limit.limit s.links.counts r.counts found.1
-                (omega (arith, more, c.if-count-limit.false, c.count.ensures.answer))
-                (put_count_other s.messages s.links r c.args.b c.shift-x.result c.args.message found.0 s.size some c.shift-x.ensures.first c.shift-x.ensures.moved) s.few,
-            tt,
-          ),
-        ),
-      ),
-    )
+    ranged-set s.messages c.shift-x.result c.args.message low ranged s.ranged
+
+pub invariant_of-self-clause-few : goal.invariant_of-self-clause-few
+invariant_of-self-clause-few c =
+    let s = c.args.self.now in
+    let r = c.shift-x.new.self in
+    let found = c.in_ok-limit.ensures.answer in
+    let some = free_cell s.limits s.links s.messages s.few s.pool c.args.b c.in_ok-limit.limit found.0 found.1 (omega (arith, c.if-count-limit.false, c.count.ensures.answer)) in
+    let more = put_count s.messages s.links r c.args.b c.shift-x.result c.args.message found.0 s.size some c.shift-x.ensures.first c.shift-x.ensures.moved in
+    few_counted s.limits.limits c.args.b c.in_ok-limit.limit s.links.counts r.counts found.1
+    (omega (arith, more, c.if-count-limit.false, c.count.ensures.answer))
+    (put_count_other s.messages s.links r c.args.b c.shift-x.result c.args.message found.0 s.size some c.shift-x.ensures.first c.shift-x.ensures.moved) s.few
 
 pub returns : goal.returns
 returns c =

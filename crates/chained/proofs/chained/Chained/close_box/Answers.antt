@@ -21,22 +21,6 @@ returns-in_err-give_back c =
       );
     })
 
-pub invariant_of-self-2 : goal.invariant_of-self-2
-invariant_of-self-2 c =
-    let s = c.args.self.now in
-    let l = c.give_back.new.self in
-    let d = c.in_ok-give_back.ensures.done in
-    let cleared = c.clear.ensures.cleared in (
-      s.size,
-      (
-        s.ranged,
-        (
-          whole_returned s.limits.limits l.limits s.limits.spare l.spare c.args.b s.limits.sizes d ∙ s.pool,
-          (few_returned s.limits.limits l.limits s.limits.spare l.spare c.args.b s.links.counts c.clear.new.self.counts d cleared.none (λ a h n. (cleared.same a h n).0) s.few, tt),
-        ),
-      ),
-    )
-
 pub returns : goal.returns
 returns c =
     let s = c.args.self.now in

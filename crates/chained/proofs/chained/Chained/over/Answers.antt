@@ -6,14 +6,8 @@ use Rattle.carriers.specs.Tabled.{boxes_none}
 use Rattle.chained.specs.Chained.{blank, ranged_test, waiting}
 use Rattle.chained.proofs.chained.Chained.over.Goals as goal
 
-pub invariant_of-result : goal.invariant_of-result
-invariant_of-result c = (
-  refl,
-  (
-    (λ i. ap ranged_test (get_d_equal 128 i blank)),
-    (omega (arith, c.requires.spare, ap allotted c.requires.none), ((λ b h. omega (arith, c.new.ensures.counts b h)), tt)),
-  ),
-)
+pub invariant_of-result-clause-ranged : goal.invariant_of-result-clause-ranged
+invariant_of-result-clause-ranged c = λ i. ap ranged_test (get_d_equal 128 i blank)
 
 pub returns : goal.returns
 returns c =

@@ -14,14 +14,18 @@ loop-i-preserved c =
           (get_or-set_same c.loop-i.next i (i + 1) 0 inside),
     )
 
-pub invariant_of-result : goal.invariant_of-result
-unfolding heads tails counts
-invariant_of-result c =
-    let links : (k : ℕ) → k < 127 → at c.loop-i.next k ≡ k + 1 = λ k h. c.loop-i.invariant.1 k (omega arith) in (
-      (c.loop-i.invariant.0, refl, refl, refl),
-      (below_fresh c.loop-i.next links, (apart_fresh c.loop-i.next links, (ends_fresh c.loop-i.next links, (total_fresh, tt)))),
-    )
-
 pub returns : goal.returns
 unfolding heads tails counts
 returns c = record { counts = count_box }
+
+pub invariant_of-result-clause-below : goal.invariant_of-result-clause-below
+unfolding heads tails counts
+invariant_of-result-clause-below c = below_fresh c.loop-i.next (λ k h. c.loop-i.invariant.1 k (omega arith))
+
+pub invariant_of-result-clause-apart : goal.invariant_of-result-clause-apart
+unfolding heads tails counts
+invariant_of-result-clause-apart c = apart_fresh c.loop-i.next (λ k h. c.loop-i.invariant.1 k (omega arith))
+
+pub invariant_of-result-clause-ends : goal.invariant_of-result-clause-ends
+unfolding heads tails counts
+invariant_of-result-clause-ends c = ends_fresh c.loop-i.next (λ k h. c.loop-i.invariant.1 k (omega arith))

@@ -1,5 +1,5 @@
 use Rattle.std.proofs.Common.{◌-◌, arith}
-use Rattle.chained.proofs.Relink.{spot_low, count_fits, chains-kept, cells_moved}
+use Rattle.chained.proofs.Relink.{spot_low, count_fits, below_new, apart_new, ends_new, total_new, cells_moved}
 use Rattle.chained.proofs.links.Links.relink.Goals as goal
 
 pub bounds-self-last : goal.bounds-self-last
@@ -20,12 +20,6 @@ overflow_add-self c =
           (λ e. (c.pick-head.ensures.0 e, c.pick-spot.ensures.0 e)) (λ q. (c.pick-head.ensures.1 q, c.pick-spot.ensures.1 q)),
     )
 
-pub invariant_of-self : goal.invariant_of-self
-invariant_of-self c =
-    chains-kept c.args.self.now c.args.from c.args.to c.args.n c.args.last c.pick-head.result c.pick-spot.result
-    c.requires.numbered.0 c.requires.numbered.1.0 c.requires.numbered.1.1 c.requires.some.0 c.requires.some.1 c.requires.last
-    (λ e. (c.pick-head.ensures.0 e, c.pick-spot.ensures.0 e)) (λ q. (c.pick-head.ensures.1 q, c.pick-spot.ensures.1 q))
-
 pub returns : goal.returns
 returns c =
     record {
@@ -34,3 +28,27 @@ returns c =
           c.requires.numbered.0 c.requires.numbered.1.0 c.requires.numbered.1.1 c.requires.some.0 c.requires.some.1 c.requires.last
           (λ e. (c.pick-head.ensures.0 e, c.pick-spot.ensures.0 e)) (λ q. (c.pick-head.ensures.1 q, c.pick-spot.ensures.1 q));
     }
+
+pub invariant_of-self-clause-below : goal.invariant_of-self-clause-below
+invariant_of-self-clause-below c =
+    below_new c.args.self.now c.args.from c.args.to c.args.n c.args.last c.pick-head.result c.pick-spot.result
+    c.requires.numbered.0 c.requires.numbered.1.0 c.requires.numbered.1.1 c.requires.some.0 c.requires.some.1 c.requires.last
+    (λ e. (c.pick-head.ensures.0 e, c.pick-spot.ensures.0 e)) (λ q. (c.pick-head.ensures.1 q, c.pick-spot.ensures.1 q))
+
+pub invariant_of-self-clause-apart : goal.invariant_of-self-clause-apart
+invariant_of-self-clause-apart c =
+    apart_new c.args.self.now c.args.from c.args.to c.args.n c.args.last c.pick-head.result c.pick-spot.result
+    c.requires.numbered.0 c.requires.numbered.1.0 c.requires.numbered.1.1 c.requires.some.0 c.requires.some.1 c.requires.last
+    (λ e. (c.pick-head.ensures.0 e, c.pick-spot.ensures.0 e)) (λ q. (c.pick-head.ensures.1 q, c.pick-spot.ensures.1 q))
+
+pub invariant_of-self-clause-ends : goal.invariant_of-self-clause-ends
+invariant_of-self-clause-ends c =
+    ends_new c.args.self.now c.args.from c.args.to c.args.n c.args.last c.pick-head.result c.pick-spot.result
+    c.requires.numbered.0 c.requires.numbered.1.0 c.requires.numbered.1.1 c.requires.some.0 c.requires.some.1 c.requires.last
+    (λ e. (c.pick-head.ensures.0 e, c.pick-spot.ensures.0 e)) (λ q. (c.pick-head.ensures.1 q, c.pick-spot.ensures.1 q))
+
+pub invariant_of-self-clause-total : goal.invariant_of-self-clause-total
+invariant_of-self-clause-total c =
+    total_new c.args.self.now c.args.from c.args.to c.args.n c.args.last c.pick-head.result c.pick-spot.result
+    c.requires.numbered.0 c.requires.numbered.1.0 c.requires.numbered.1.1 c.requires.some.0 c.requires.some.1 c.requires.last
+    (λ e. (c.pick-head.ensures.0 e, c.pick-spot.ensures.0 e)) (λ q. (c.pick-head.ensures.1 q, c.pick-spot.ensures.1 q))
