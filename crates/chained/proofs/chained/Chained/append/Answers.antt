@@ -1,5 +1,4 @@
-use Rattle.std.proofs.Common.{◌<◌, set, refl, ◌∙◌, arith}
-use Rattle.std.proofs.lemmas.List.{length-set}
+use Rattle.std.proofs.Common.{◌<◌, set, refl, arith}
 use Rattle.std.proofs.lemmas.Result.{err_from_is_err_and}
 use Rattle.carriers.proofs.Drawing.{few_counted}
 use Rattle.carriers.specs.Tabled.{put_refused, put_full, put_done}

@@ -1,7 +1,6 @@
-use Rattle.std.proofs.Common.{ap, ◌∙◌}
+use Rattle.std.proofs.Common.{ap}
 use Rattle.std.proofs.lemmas.Result.{err_from_is_err_and}
 use Rattle.carriers.specs.Tables.{boxes_from}
-use Rattle.carriers.proofs.Drawing.{whole_returned, few_returned}
 use Rattle.carriers.specs.Tabled.{close_refused, close_done}
 use Rattle.chained.specs.Chained.{waiting}
 use Rattle.chained.specs.Cells.{few-waiting, clear_others}

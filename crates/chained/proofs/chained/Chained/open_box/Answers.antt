@@ -1,4 +1,3 @@
-use Rattle.carriers.proofs.Drawing.{drawn_or_not}
 use Rattle.carriers.specs.Tabled.{open_answered}
 use Rattle.chained.specs.Chained.{waiting}
 use Rattle.chained.specs.Cells.{few-waiting}

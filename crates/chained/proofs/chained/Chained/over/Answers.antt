@@ -1,5 +1,4 @@
-use Rattle.std.proofs.Common.{replicate, refl, ap, ◌∙◌, arith}
-use Rattle.carriers.specs.Limits.{allotted}
+use Rattle.std.proofs.Common.{replicate, ap, ◌∙◌}
 use Rattle.carriers.specs.Tables.{boxes_from}
 use Rattle.carriers.proofs.Drawing.{get_d_equal}
 use Rattle.carriers.specs.Tabled.{boxes_none}

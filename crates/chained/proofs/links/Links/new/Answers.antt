@@ -1,7 +1,6 @@
-use Rattle.std.proofs.Common.{◌≡◌, ℕ, ◌+◌, ◌<◌, ◌≢◌, length, refl, ◌∙◌, arith, below_more}
+use Rattle.std.proofs.Common.{◌+◌, ◌<◌, ◌≢◌, length, ◌∙◌, arith, below_more}
 use Rattle.std.proofs.lemmas.List.{length-set, get_or-set_same, get_or-set_other}
-use Rattle.chained.specs.Chains.{at}
-use Rattle.chained.proofs.Fresh.{heads, tails, counts, count_box, total_fresh, below_fresh, apart_fresh, ends_fresh}
+use Rattle.chained.proofs.Fresh.{heads, tails, counts, count_box, below_fresh, apart_fresh, ends_fresh}
 use Rattle.chained.proofs.links.Links.new.Goals as goal
 
 pub loop-i-preserved : goal.loop-i-preserved
