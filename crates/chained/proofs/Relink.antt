@@ -82,7 +82,7 @@ module _ (l : Links) (f t n y h s : ℕ) (lf : f < 65) (lt : t < 65) (ne : f ≢
         | inr q ↦ let p : 0 < size t = omega arith in inr (p, (full q).0, (full q).1 ∙ l.ends t lt p)
       ]
 
-  pub spot_low : s < 128
+  spot_low : s < 128
   spot_low =
       elim spot [
         | inl w ↦ omega (arith, w.2, l.below f (n - 1) lf (omega arith))

@@ -33,21 +33,11 @@ returns-then-count-limit c =
       );
     }
 
-pub shift-x-requires : goal.shift-x-requires
-shift-x-requires c =
+pub shift-x-requires-clause-some : goal.shift-x-requires-clause-some
+shift-x-requires-clause-some c =
     let s = c.args.self.now in
     let found = c.in_ok-limit.ensures.answer in
-    record {
-      numbered = (omega arith, (omega (arith, found.0), (λ e. omega (arith, found.0))));
-      some = free_cell s.limits s.links s.messages s.few s.pool c.args.b c.in_ok-limit.limit found.0 found.1 (omega (arith, c.if-count-limit.false, c.count.ensures.answer));
-    }
-
-pub bounds-self-x : goal.bounds-self-x
-bounds-self-x c =
-    let s = c.args.self.now in
-    let found = c.in_ok-limit.ensures.answer in
-    let some = free_cell s.limits s.links s.messages s.few s.pool c.args.b c.in_ok-limit.limit found.0 found.1 (omega (arith, c.if-count-limit.false, c.count.ensures.answer)) in
-    omega (arith, c.shift-x.ensures.first, s.links.below 64 0 (omega arith) some)
+    free_cell s.limits s.links s.messages s.few s.pool c.args.b c.in_ok-limit.limit found.0 found.1 (omega (arith, c.if-count-limit.false, c.count.ensures.answer))
 
 pub invariant_of-self-clause-ranged : goal.invariant_of-self-clause-ranged
 invariant_of-self-clause-ranged c =

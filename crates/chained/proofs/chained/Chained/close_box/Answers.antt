@@ -1,5 +1,6 @@
 use Rattle.std.proofs.Common.{ap}
 use Rattle.std.proofs.lemmas.Result.{err_from_is_err_and}
+use Rattle.carriers.proofs.Drawing.{few_returned}
 use Rattle.carriers.specs.Tables.{boxes_from}
 use Rattle.carriers.specs.Tabled.{close_refused, close_done}
 use Rattle.chained.specs.Chained.{waiting}
@@ -19,6 +20,14 @@ returns-in_err-give_back c =
         ap (λ ls. boxes_from ls q) refused.1,
       );
     })
+
+pub invariant_of-self-2-clause-few : goal.invariant_of-self-2-clause-few
+invariant_of-self-2-clause-few c =
+    let s = c.args.self.now in
+    let l = c.give_back.new.self in
+    let cleared = c.clear.ensures.cleared in
+    few_returned s.limits.limits l.limits s.limits.spare l.spare c.args.b s.links.counts c.clear.new.self.counts
+    c.in_ok-give_back.ensures.done cleared.none (λ a h n. (cleared.same a h n).0) s.few
 
 pub returns : goal.returns
 returns c =

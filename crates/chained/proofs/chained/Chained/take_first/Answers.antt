@@ -30,12 +30,6 @@ returns-then-count-eq0 c =
       );
     }
 
-pub bounds-self-x : goal.bounds-self-x
-bounds-self-x c =
-    let s = c.args.self.now in
-    let found = c.in_ok-of_open.ensures.answer in
-    omega (arith, c.shift-x.ensures.first, s.links.below c.args.b 0 (omega (arith, found.0)) (omega (arith, c.if-count-eq0.false, c.count.ensures.answer)))
-
 pub returns : goal.returns
 returns c =
     let s = c.args.self.now in
