@@ -1,6 +1,6 @@
 -- What code above any carrier may use: the boxes after a call, where a call is not refused, and what every box keeps.
 use Rattle.std.proofs.Common.{◌≡◌, ℕ, ◌+◌, ◌<◌, ◌≤◌, true, false, ◌≢◌, List, [], ◌∷◌, ◌++◌, length, drop, set, sym, refl, ap, ◌∙◌, subst, arith}
-use Rattle.std.specs.List.{AllByRecursion as All}
+use Rattle.std.specs.List.{AllByRecursion}
 use Rattle.std.proofs.lemmas.List.{get_or-set_same, get_or-set_other, length-set, length_push}
 use Rattle.std.proofs.lemmas.Bool.{both_ways}
 use Rattle.carriers.specs.declared.message.Message.{Message}
@@ -51,7 +51,7 @@ module _ (pool : ℕ) (bs : List Box) (kept : Kept pool bs) where
   taken_here b m bs' d = box_here bs bs' b _ kept.count d.numbered d.after
 
   pub taken_ranged : (b : ℕ) (m : Message) (bs' : List Box) → Taken bs b m bs' → Ranged m
-  taken_ranged b m bs' d = (subst (All Ranged) d.first (kept.each b).ranged).0
+  taken_ranged b m bs' d = (subst (AllByRecursion Ranged) d.first (kept.each b).ranged).0
 
   pub closed_here : (b : ℕ) (bs' : List Box) → Closed bs b bs' → box_at bs' b ≡ closed
   closed_here b bs' d = box_here bs bs' b closed kept.count d.numbered d.after

@@ -10,7 +10,7 @@
 --   Fits x              a limit of at most 15, no more messages than the limit, each in its range
 --   Kept pool bs        what the boxes of every carrier with this pool keep
 use Rattle.std.specs.Prelude.{◌≡◌, ℕ, ◌<◌, ◌≤◌, Bool, true, false, List, [], length, Some, None, sum_by, Option, slice_index_or}
-use Rattle.std.specs.List.{AllByRecursion as All}
+use Rattle.std.specs.List.{AllByRecursion}
 use Rattle.carriers.specs.declared.message.Message.{Message}
 
 pub data Box : Type 0 where
@@ -45,7 +45,7 @@ Ranged m = (m.number < 16) × Slot m.payload
 pub record Fits (x : Box) : Type 0 where
   pub low : limit_of x ≤ 15
   pub few : length (queue_of x) ≤ limit_of x
-  pub ranged : All Ranged (queue_of x)
+  pub ranged : AllByRecursion Ranged (queue_of x)
 
 pub record Kept (pool : ℕ) (bs : List Box) : Type 0 where
   pub count : length bs ≡ 64

@@ -2,18 +2,14 @@
 use Rattle.std.specs.Prelude.{◌≡◌, ℕ, ◌+◌, ◌-◌, ◌*◌, ◌<◌, ◌≤◌, true, cond, ◌≢◌, ◌⊎◌, List, length, Some, None, Option, ◌==◌, nat_lt, slice_index, slice_index_or, slice_set, refl}
 use Rattle.std.proofs.Common.{sym, ap, ◌∙◌, subst, inl, inr, ⊎_elim, arith}
 use Rattle.std.proofs.lemmas.List.{get_or-set_same, get_or-set_other, length-set}
-use Rattle.std.proofs.lemmas.Bool.{lt-ltb, le-ltb, ltb-true, eqb-true, eqb-false, ne_eqb, or_left, or_cases, cond-true, cond-false, cases_Bool, cases_eq, cases_lt, cases_order}
+use Rattle.std.proofs.lemmas.Bool.{lt-ltb, le-ltb, ltb-true, eqb-true, eqb-false, ne_eqb, or_cases, cond-true, cond-false, cases_Bool, cases_lt, cases_order}
 use Rattle.carriers.specs.Boxes.{Slot, Ranged}
 use Rattle.carriers.specs.Rows.{byte_of, payload_of, slot_byte, place_of, message_at, Legible}
 
--- a payload's byte gives the payload back, and is a slot or 255
+-- a payload's byte gives the payload back, and the payload of a slot or 255 is in its range
 pub payload_of_byte : (p : Option ℕ) → Slot p → payload_of (byte_of p) ≡ p
 payload_of_byte None h = refl
 payload_of_byte (Some s) h = cond-false (s == 255) None (Some s) (ne_eqb s 255 (λ e. omega arith))
-
-pub slot_byte_of : (p : Option ℕ) → Slot p → slot_byte (byte_of p) ≡ true
-slot_byte_of None h = refl
-slot_byte_of (Some s) h = or_left (nat_lt s 64) (s == 255) (lt-ltb s 64 h)
 
 slot_of_byte : (s : ℕ) → slot_byte s ≡ true → Slot (payload_of s)
 slot_of_byte s h =
@@ -109,18 +105,3 @@ module _ (bytes : List ℕ) (b p x s : ℕ) (long : length bytes ≡ 1920) (numb
       (elsewhere (30 * a + 2 * r) (λ e. off (omega arith)) (λ e. omega arith))
       ∙ ap (λ n. record { number = slice_index bytes (30 * a + 2 * r); payload = payload_of n })
       (elsewhere (30 * a + 2 * r + 1) (λ e. omega arith) (λ e. off (omega arith)))
-
-  pub legible_written : x < 16 → slot_byte s ≡ true → Legible bytes → Legible written
-  legible_written low slot ok q =
-      elim (cases_eq q (15 * b + p)) [
-        | inl e ↦
-            (let e₀ : 2 * q ≡ 30 * b + 2 * p = omega arith in
-            let e₁ : 2 * q + 1 ≡ 30 * b + 2 * p + 1 = omega arith in (
-              omega (arith, ap (λ j. slice_index written j) e₀, number_here),
-              ap (λ j. slot_byte (slice_index written j)) e₁ ∙ ap slot_byte slot_here ∙ slot,
-            ))
-        | inr n ↦ (
-          omega (arith, elsewhere (2 * q) (λ e. n (omega arith)) (λ e. omega arith), (ok q).0),
-          ap slot_byte (elsewhere (2 * q + 1) (λ e. omega arith) (λ e. n (omega arith))) ∙ (ok q).1,
-        )
-      ]

@@ -1,11 +1,10 @@
 -- The messages of a row after one has been appended or taken, and those of the other rows.
 use Rattle.std.specs.Prelude.{◌≡◌, ℕ, ◌+◌, ◌-◌, ◌*◌, ◌<◌, ◌≤◌, ◌≢◌, List, [], ◌∷◌, ◌++◌, map, length, slice_index, slice_index_or, slice_set, refl}
-use Rattle.std.proofs.Common.{sym, ap, ◌∙◌, subst, inl, inr, arith, zero-add}
-use Rattle.std.specs.List.{range_with_len, AllByRecursion as All}
+use Rattle.std.proofs.Common.{sym, ap, ◌∙◌, subst, arith, zero-add}
+use Rattle.std.specs.List.{range_with_len, AllByRecursion}
 use Rattle.std.proofs.lemmas.List.{get_or-set_same, get_or-set_other}
 use Rattle.std.proofs.lemmas.List.FromFn.{length-map-range_with_len, get_or-map-range_with_len}
 use Rattle.std.proofs.ByRecursion.{All-from_get_or}
-use Rattle.std.proofs.lemmas.Bool.{cases_eq}
 use Rattle.carriers.specs.declared.message.Message.{Message}
 use Rattle.carriers.specs.Boxes.{Ranged}
 use Rattle.carriers.specs.Rows.{payload_of, place_of, message_at, queued, Legible}
@@ -15,7 +14,7 @@ use Rattle.carriers.specs.Bytes.{place_inside, place_apart, place-first, place-n
 pub length-queued : (ns fs bytes : List ℕ) (b : ℕ) → length (queued ns fs bytes b) ≡ slice_index ns b
 length-queued ns fs bytes b = length-map-range_with_len (λ k. message_at bytes b (place_of (slice_index fs b) k)) 0 (slice_index ns b)
 
-pub queued-ranged : (ns fs bytes : List ℕ) (b : ℕ) → Legible bytes → All Ranged (queued ns fs bytes b)
+pub queued-ranged : (ns fs bytes : List ℕ) (b : ℕ) → Legible bytes → AllByRecursion Ranged (queued ns fs bytes b)
 queued-ranged ns fs bytes b ok =
     let f : ℕ → Message = λ k. message_at bytes b (place_of (slice_index fs b) k) in
     All-from_get_or Ranged (queued ns fs bytes b) (f 0)
@@ -31,14 +30,6 @@ queued-same ns fs bytes ns' fs' bytes' a en ef same =
 
 module _ (ns fs bytes : List ℕ) (b : ℕ) (long : length ns ≡ 64) (numbered : b < 64)
     (few : (a : ℕ) → slice_index ns a ≤ 15) (within : (a : ℕ) → slice_index fs a < 15) where
-  pub few-set : (n : ℕ) → n ≤ 15 → (a : ℕ) → slice_index (slice_set ns b n) a ≤ 15
-  few-set n h a =
-      let inside : b < length ns = omega arith in
-      elim (cases_eq a b) [
-        | inl e ↦ omega (arith, ap (λ i. slice_index (slice_set ns b n) i) e, get_or-set_same ns b n 0 inside)
-        | inr q ↦ omega (arith, get_or-set_other ns b a n 0 q, few a)
-      ]
-
   -- a message written behind the last one
   module _ (p x s : ℕ) (size : length bytes ≡ 1920) (room : slice_index_or ns b 0 < 15) (is : p ≡ place_of (slice_index fs b) (slice_index ns b)) where
     abbrev written : List ℕ
@@ -79,7 +70,3 @@ module _ (ns fs bytes : List ℕ) (b : ℕ) (long : length ns ≡ 64) (numbered 
         (λ k h. ap (message_at bytes b) (place-next f k (within b) (omega (arith, few b))))
         ∙ ap (λ i. message_at bytes b i ∷ map (λ k. message_at bytes b (place_of (place_of f 1) k)) (range_with_len 0 (n - 1))) (place-first f (within b))
         ∙ ap (λ ms. message_at bytes b f ∷ ms) (sym rest)
-
-    pub queued_pop_other : (a : ℕ) → a ≢ b → queued (slice_set ns b (slice_index ns b - 1)) (slice_set fs b next) bytes a ≡ queued ns fs bytes a
-    queued_pop_other a q =
-        queued-same ns fs bytes (slice_set ns b (slice_index ns b - 1)) (slice_set fs b next) bytes a (get_or-set_other ns b a (slice_index ns b - 1) 0 q) (get_or-set_other fs b a next 0 q) (λ k h. refl)

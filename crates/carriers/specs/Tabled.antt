@@ -1,7 +1,7 @@
 -- Boxes told by limits and messages: what holds of them, and what the calls of a carrier do to them.
 use Rattle.std.specs.Prelude.{◌≡◌, ℕ, ◌+◌, ◌<◌, ◌≤◌, true, false, ◌≢◌, List, [], ◌∷◌, ◌++◌, map, length, get_or, drop, replicate, Some, None, Ok, Err, sum_by, Option, Result, MatchResult, slice_index_or, slice_set, refl}
 use Rattle.std.proofs.Common.{sym, ap, ◌∙◌, subst, inl, inr, arith, zero-add}
-use Rattle.std.specs.List.{AllByRecursion as All}
+use Rattle.std.specs.List.{AllByRecursion}
 use Rattle.std.proofs.lemmas.List.{same_lists, get_or-set_same, get_or-set_other, length-set, length-map, get_or-map, get_or_past, get_or_default}
 use Rattle.std.proofs.lemmas.List.Sums.{sum-map}
 use Rattle.std.proofs.lemmas.List.FromFn.{length-map-range_with_len, get_or-map-range_with_len}
@@ -27,7 +27,7 @@ queue_from : (o : Option ℕ) (ms : List Message) → length ms ≤ limit_in o �
 queue_from None ms h = sym (none_left ms h)
 queue_from (Some l) ms h = refl
 
-fits_from : (o : Option ℕ) (ms : List Message) → limit_in o ≤ 15 → length ms ≤ limit_in o → All Ranged ms → Fits (box_from o ms)
+fits_from : (o : Option ℕ) (ms : List Message) → limit_in o ≤ 15 → length ms ≤ limit_in o → AllByRecursion Ranged ms → Fits (box_from o ms)
 fits_from None ms low few ok = record { low = omega arith; few = omega arith; ranged = tt }
 fits_from (Some l) ms low few ok = record { low = low; few = few; ranged = ok }
 
@@ -92,7 +92,7 @@ module _ (ls : List (Option ℕ)) (q : ℕ → List Message) (long : length ls �
       get_or-map limit_of (boxes_from ls q) k closed d inside ∙ limit_at k low ∙ sym (get_or-map limit_in ls k None d inside')))
       ∙ sum-map limit_in ls
 
-  pub boxes_kept : (pool : ℕ) → Low ls → ((b : ℕ) → All Ranged (q b)) → allotted ls ≤ pool → Kept pool (boxes_from ls q)
+  pub boxes_kept : (pool : ℕ) → Low ls → ((b : ℕ) → AllByRecursion Ranged (q b)) → allotted ls ≤ pool → Kept pool (boxes_from ls q)
   boxes_kept pool low ok within =
       record {
         count = length_boxes ls q;

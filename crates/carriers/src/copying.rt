@@ -4,7 +4,7 @@ ghost use Rattle.carriers.specs.Boxes.{closed};
 ghost use Rattle.carriers.specs.Limits.{allotted, Few};
 ghost use Rattle.carriers.specs.Copied.{copied};
 ghost use Rattle.carriers.specs.Copies.{copied-kept};
-ghost use Rattle.std.proofs.Common.{rules, arith};
+ghost use Rattle.std.proofs.Common.{rules};
 
 use crate::carrier::Carrier;
 use crate::limits::Limits;
@@ -44,7 +44,7 @@ impl Carrier for Copying {
 
     ghost boxes = { λ c. copied c.limits c.rows };
 
-    ghost bounds = { first_of (Prim.search rules, Prim.grind (arith, Self.row.coded.inj)) };
+    ghost bounds = { Prim.search rules };
 
     ghost kept = { λ c. copied-kept c.limits c.rows c.few c.pool };
 

@@ -1,5 +1,5 @@
 -- The chains of a new store of cells: all cells are free, each linked to the one behind it.
-use Rattle.std.proofs.Common.{◌≡◌, ℕ, zero, suc, ◌+◌, ◌-◌, ◌<◌, ◌≢◌, List, set, replicate, sum, sym, refl, ap, ◌∙◌, inl, inr, arith}
+use Rattle.std.proofs.Common.{◌≡◌, ℕ, zero, suc, ◌+◌, ◌-◌, ◌<◌, ◌≢◌, List, set, replicate, sym, refl, ap, ◌∙◌, inl, inr, arith}
 use Rattle.std.proofs.lemmas.List.{get_or-set_other, get_or-replicate}
 use Rattle.std.proofs.lemmas.Bool.{cases_eq}
 use Rattle.chained.specs.Chains.{at, cell, Below, Apart, Ends}
@@ -32,10 +32,6 @@ tail_free = refl
 
 pub count_box : (a : ℕ) → a < 64 → at counts a ≡ 0
 count_box a la = count_is a (omega arith) (λ e. omega arith)
-
-pub total_fresh : sum counts ≡ 128
-unfolding counts
-total_fresh = refl
 
 only_free : (a k : ℕ) → a < 65 → k < at counts a → (a ≡ 64) × (k < 128)
 only_free a k la lk =

@@ -82,7 +82,7 @@ module _ (l : Links) (f t n y h s : ℕ) (lf : f < 65) (lt : t < 65) (ne : f ≢
         | inr q ↦ let p : 0 < size t = omega arith in inr (p, (full q).0, (full q).1 ∙ l.ends t lt p)
       ]
 
-  pub spot_low : s < 128
+  spot_low : s < 128
   spot_low =
       elim spot [
         | inl w ↦ omega (arith, w.2, l.below f (n - 1) lf (omega arith))
@@ -221,10 +221,10 @@ module _ (l : Links) (f t n y h s : ℕ) (lf : f < 65) (lt : t < 65) (ne : f ≢
             ])
       ]
 
-  below_new : Below next' heads' counts'
+  pub below_new : Below next' heads' counts'
   below_new a k la lk = let o = old a k la lk in omega (arith, o.is, l.below o.a₀ o.k₀ o.a-low o.k-low)
 
-  apart_new : Apart next' heads' counts'
+  pub apart_new : Apart next' heads' counts'
   apart_new w e =
       let o = old w.a w.k w.a-low w.k-low in
       let p = old w.c w.j w.c-low w.j-low in
@@ -234,7 +234,7 @@ module _ (l : Links) (f t n y h s : ℕ) (lf : f < 65) (lt : t < 65) (ne : f ≢
   tail-to : at tails' t ≡ y
   tail-to = let i : t < length l.tails = omega (arith, l.sizes.2) in get_or-set_same l.tails t y 0 i
 
-  ends_new : Ends next' heads' tails' counts'
+  pub ends_new : Ends next' heads' tails' counts'
   ends_new a la pos =
       elim (cases_eq a t) [
         | inl e ↦
@@ -254,7 +254,7 @@ module _ (l : Links) (f t n y h s : ℕ) (lf : f < 65) (lt : t < 65) (ne : f ≢
             ]))
       ]
 
-  total_new : sum counts' ≡ 128
+  pub total_new : sum counts' ≡ 128
   total_new =
       let i₁ : f < length l.counts = omega (arith, l.sizes.3) in
       let i₂ : t < length (set l.counts f (size f - n)) = omega (arith, l.sizes.3, length-set l.counts f (size f - n)) in
@@ -266,14 +266,6 @@ module _ (l : Links) (f t n y h s : ℕ) (lf : f < 65) (lt : t < 65) (ne : f ≢
       let i₁ : t < length l.counts = omega (arith, l.sizes.3) in
       let i₂ : f < length (set l.counts t 0) = omega (arith, l.sizes.3, length-set l.counts t 0) in
       omega (arith, l.total, sum_by-set (λ z. z) l.counts t 0 0 i₁, get_or-le-sum_by (λ z. z) (set l.counts t 0) f 0 i₂, get_or-set_other l.counts t f 0 0 ne)
-
-  pub chains-kept :
-      ((length next' ≡ 128) × (length heads' ≡ 65) × (length tails' ≡ 65) × (length counts' ≡ 65))
-      × (Below next' heads' counts' × (Apart next' heads' counts' × (Ends next' heads' tails' counts' × ((sum counts' ≡ 128) × Unit {0}))))
-  chains-kept = (
-    (simp length-set l.sizes.0, simp length-set l.sizes.1, simp length-set l.sizes.2, simp length-set l.sizes.3),
-    (below_new, (apart_new, (ends_new, (total_new, tt)))),
-  )
 
   pub cells_moved : Moved l.next l.heads l.counts f t n next' heads' counts'
   cells_moved = record { number = refl; other = other; front = front; back = back; joined = joined }

@@ -1,7 +1,7 @@
 -- The messages in the cells of the chains, after a cell was taken from the free ones, given back, or all of a box were.
 use Rattle.std.specs.Prelude.{◌≡◌, ℕ, suc, ◌+◌, ◌-◌, ◌<◌, ◌≤◌, true, ◌≢◌, List, [], ◌∷◌, ◌++◌, map, length, get_or, take, Some, None, sum, Option, nat_lt, slice_index_or, slice_set, refl}
 use Rattle.std.proofs.Common.{sym, ap, ◌∙◌, subst, inl, inr, arith, zero-add}
-use Rattle.std.specs.List.{range_with_len, AllByRecursion as All}
+use Rattle.std.specs.List.{range_with_len, AllByRecursion}
 use Rattle.std.proofs.lemmas.List.{get_or-set_same, get_or-set_other, length-set, length-map, get_or-map, take_all, length-take-le, get_or-take}
 use Rattle.std.proofs.lemmas.List.FromFn.{length-map-range_with_len, get_or-map-range_with_len}
 use Rattle.std.proofs.ByRecursion.{All-from_get_or}
@@ -71,7 +71,7 @@ free_left counts ls b lc ll total within numbered few room =
 pub length-waiting : (ms : List Message) (c : Links) (b : ℕ) → length (waiting ms c b) ≡ at c.counts b
 length-waiting ms c b = length-map-range_with_len (λ k. get_or ms (cell c.next c.heads b k) blank) 0 (at c.counts b)
 
-waiting-ranged : (ms : List Message) (c : Links) (b : ℕ) → AllRanged ms → All Ranged (waiting ms c b)
+waiting-ranged : (ms : List Message) (c : Links) (b : ℕ) → AllRanged ms → AllByRecursion Ranged (waiting ms c b)
 waiting-ranged ms c b ok =
     let f : ℕ → Message = λ k. get_or ms (cell c.next c.heads b k) blank in
     All-from_get_or Ranged (waiting ms c b) blank

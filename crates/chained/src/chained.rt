@@ -4,7 +4,7 @@ ghost use Rattle.carriers.specs.Boxes.{closed};
 ghost use Rattle.carriers.specs.Limits.{allotted, Few};
 ghost use Rattle.chained.specs.Chained.{chained, AllRanged};
 ghost use Rattle.chained.specs.Cells.{chained-kept};
-ghost use Rattle.std.proofs.Common.{rules, arith};
+ghost use Rattle.std.proofs.Common.{rules};
 
 use crate::links::Links;
 use carriers::carrier::Carrier;
@@ -62,7 +62,7 @@ impl Carrier for Chained {
 
     ghost boxes = { λ c. chained c.limits c.links c.messages };
 
-    ghost bounds = { first_of (Prim.search rules, Prim.grind (arith, Self.row.coded.inj)) };
+    ghost bounds = { Prim.search rules };
 
     ghost kept = { λ c. chained-kept c.limits c.links c.messages c.few c.pool c.ranged };
 

@@ -1,5 +1,7 @@
 // Makes a list of calls, one a line, over both carriers, and prints each with the answer of the chained and of the
 // copying one.
+#![tactic(auto)]
+
 mod answer;
 mod call;
 #[cfg(test)]

@@ -1,9 +1,7 @@
-use Rattle.std.proofs.Common.{◌≡◌, ◌<◌, length, get_or, ap, ◌∙◌, arith}
+use Rattle.std.proofs.Common.{ap}
 use Rattle.std.proofs.lemmas.Result.{err_from_is_err_and}
-use Rattle.std.proofs.lemmas.List.{get_or-set_same, get_or-set_other}
 use Rattle.carriers.specs.Rows.{queued}
 use Rattle.carriers.specs.Tables.{boxes_from}
-use Rattle.carriers.proofs.Drawing.{whole_returned, few_returned}
 use Rattle.carriers.specs.Tabled.{close_refused, close_done}
 use Rattle.carriers.specs.Copies.{few-queued}
 use Rattle.carriers.proofs.copying.Copying.close_box.Goals as goal
@@ -21,23 +19,6 @@ returns-in_err-give_back c =
         ap (λ ls. boxes_from ls q) refused.1,
       );
     })
-
-pub invariant_of-self-2 : goal.invariant_of-self-2
-invariant_of-self-2 c =
-    let s = c.args.self.now in
-    let b = c.args.b in
-    let l = c.give_back.new.self in
-    let r = c.clear.new.self in
-    let d = c.in_ok-give_back.ensures.done in
-    let inside : b < length s.rows.counts = omega (arith, d.numbered, s.rows.sizes.0) in
-    let none : get_or r.counts b 0 ≡ 0 = ap (λ ns. get_or ns b 0) c.clear.ensures.counts ∙ get_or-set_same s.rows.counts b 0 0 inside in (
-      whole_returned s.limits.limits l.limits s.limits.spare l.spare b s.limits.sizes d ∙ s.pool,
-      (
-        few_returned s.limits.limits l.limits s.limits.spare l.spare b s.rows.counts r.counts d none
-            (λ a h n. ap (λ ns. get_or ns a 0) c.clear.ensures.counts ∙ get_or-set_other s.rows.counts b a 0 0 n) s.few,
-        tt,
-      ),
-    )
 
 pub returns : goal.returns
 returns c =

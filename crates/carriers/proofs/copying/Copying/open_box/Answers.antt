@@ -1,16 +1,7 @@
 use Rattle.carriers.specs.Rows.{queued}
 use Rattle.carriers.specs.Tabled.{open_answered}
 use Rattle.carriers.specs.Copies.{few-queued}
-use Rattle.carriers.proofs.Drawing.{drawn_or_not}
 use Rattle.carriers.proofs.copying.Copying.open_box.Goals as goal
-
-pub invariant_of-self : goal.invariant_of-self
-invariant_of-self c =
-    let s = c.args.self.now in
-    let z =
-    drawn_or_not c.draw.result s.limits.limits c.draw.new.self.limits s.limits.spare c.draw.new.self.spare c.args.b c.args.limit 960 s.rows.counts s.limits.sizes
-    c.draw.ensures.done s.pool s.few in
-    (z.0, (z.1, tt))
 
 pub returns : goal.returns
 returns c =

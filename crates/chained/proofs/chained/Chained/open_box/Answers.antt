@@ -1,16 +1,7 @@
-use Rattle.carriers.proofs.Drawing.{drawn_or_not}
 use Rattle.carriers.specs.Tabled.{open_answered}
 use Rattle.chained.specs.Chained.{waiting}
 use Rattle.chained.specs.Cells.{few-waiting}
 use Rattle.chained.proofs.chained.Chained.open_box.Goals as goal
-
-pub invariant-of-self : goal.invariant-of-self
-invariant-of-self c =
-    let s = c.args.self.now in
-    let z =
-    drawn_or_not c.draw.result s.limits.limits c.draw.new.self.limits s.limits.spare c.draw.new.self.spare c.args.b c.args.limit 128 s.links.counts s.limits.sizes
-    c.draw.ensures.done s.pool s.few in
-    (s.size, (s.ranged, (z.0, (z.1, tt))))
 
 pub returns : goal.returns
 returns c =

@@ -1,19 +1,12 @@
-use Rattle.std.proofs.Common.{replicate, refl, ap, ◌∙◌, arith}
-use Rattle.carriers.specs.Limits.{allotted}
+use Rattle.std.proofs.Common.{replicate, ap, ◌∙◌}
 use Rattle.carriers.specs.Tables.{boxes_from}
 use Rattle.carriers.proofs.Drawing.{get_d_equal}
 use Rattle.carriers.specs.Tabled.{boxes_none}
 use Rattle.chained.specs.Chained.{blank, ranged_test, waiting}
 use Rattle.chained.proofs.chained.Chained.over.Goals as goal
 
-pub invariant-of-result : goal.invariant-of-result
-invariant-of-result c = (
-  refl,
-  (
-    (λ i. ap ranged_test (get_d_equal 128 i blank)),
-    (omega (arith, c.requires.spare, ap allotted c.requires.none), ((λ b h. omega (arith, c.new.ensures.counts b h)), tt)),
-  ),
-)
+pub invariant_of-result-clause-ranged : goal.invariant_of-result-clause-ranged
+invariant_of-result-clause-ranged c = λ i. ap ranged_test (get_d_equal 128 i blank)
 
 pub returns : goal.returns
 returns c =

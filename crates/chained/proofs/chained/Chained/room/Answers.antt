@@ -6,7 +6,7 @@ pub returns : goal.returns
 returns c =
     let s = c.args.self.now in
     let b = c.args.b in
-    let found = c.in-ok-limit.ensures.answer in
+    let found = c.in_ok-limit.ensures.answer in
     record {
       answer = (
         found.0,

@@ -6,14 +6,14 @@ use Rattle.chained.specs.Chained.{blank, waiting}
 use Rattle.chained.specs.Cells.{few-waiting, length-waiting, take_here, take_others}
 use Rattle.chained.proofs.chained.Chained.take_first.Goals as goal
 
-pub returns-in-err-of-open : goal.returns-in-err-of-open
-returns-in-err-of-open c =
+pub returns-in_err-of_open : goal.returns-in_err-of_open
+returns-in_err-of_open c =
     let s = c.args.self.now in
-    let p = err_from_is_err_and c.from-residual.result c.from-residual.ensures.1 in
+    let p = err_from_is_err_and c.from_residual.result c.from_residual.ensures.1 in
     rw (p.1, p.2)
     (record {
       done = (
-        take-refused s.limits.limits (waiting s.messages s.links) s.limits.sizes (few-waiting s.limits s.links s.messages s.few) c.args.b c.in-err-of-open.field-0.0 c.in-err-of-open.ensures.answer,
+        take-refused s.limits.limits (waiting s.messages s.links) s.limits.sizes (few-waiting s.limits s.links s.messages s.few) c.args.b c.in_err-of_open.field-0.0 c.in_err-of_open.ensures.answer,
         refl,
       );
     })
@@ -21,7 +21,7 @@ returns-in-err-of-open c =
 pub returns-then-count-eq0 : goal.returns-then-count-eq0
 returns-then-count-eq0 c =
     let s = c.args.self.now in
-    let found = c.in-ok-of-open.ensures.answer in
+    let found = c.in_ok-of_open.ensures.answer in
     record {
       done = (
         take_empty s.limits.limits (waiting s.messages s.links) s.limits.sizes (few-waiting s.limits s.links s.messages s.few) c.args.b _ found.0 found.1
@@ -30,17 +30,11 @@ returns-then-count-eq0 c =
       );
     }
 
-pub bounds-self-x : goal.bounds-self-x
-bounds-self-x c =
-    let s = c.args.self.now in
-    let found = c.in-ok-of-open.ensures.answer in
-    omega (arith, c.shift-x.ensures.first, s.links.below c.args.b 0 (omega (arith, found.0)) (omega (arith, c.if-count-eq0.false, c.count.ensures.answer)))
-
 pub returns : goal.returns
 returns c =
     let s = c.args.self.now in
     let r = c.shift-x.new.self in
-    let found = c.in-ok-of-open.ensures.answer in
+    let found = c.in_ok-of_open.ensures.answer in
     let some : 0 < at s.links.counts c.args.b = omega (arith, c.if-count-eq0.false, c.count.ensures.answer) in
     record {
       done =

@@ -1,30 +1,15 @@
-use Rattle.std.proofs.Common.{◌-◌, arith}
-use Rattle.chained.proofs.Relink.{spot_low, count_fits, chains-kept, cells_moved}
+use Rattle.std.proofs.Common.{arith}
+use Rattle.chained.proofs.Relink.{count_fits, below_new, apart_new, ends_new, total_new, cells_moved}
 use Rattle.chained.proofs.links.Links.relink.Goals as goal
 
-pub bounds-self-last : goal.bounds-self-last
-bounds-self-last c = omega (arith, c.requires.last, c.args.self.now.below c.args.from (c.args.n - 1) c.requires.numbered.0 (omega (arith, c.requires.some.0, c.requires.some.1)))
-
-pub bounds-self-spot : goal.bounds-self-spot
-bounds-self-spot c =
-    spot_low c.args.self.now c.args.from c.args.to c.args.n c.args.last c.pick-head.result c.pick-spot.result
-    c.requires.numbered.0 c.requires.numbered.1.0 c.requires.numbered.1.1 c.requires.some.0 c.requires.some.1 c.requires.last
-    (λ e. (c.pick-head.ensures.0 e, c.pick-spot.ensures.0 e)) (λ q. (c.pick-head.ensures.1 q, c.pick-spot.ensures.1 q))
-
-pub overflow-add-self : goal.overflow-add-self
-overflow-add-self c =
+pub overflow_add-self : goal.overflow_add-self
+overflow_add-self c =
     omega (
       arith,
       count_fits c.args.self.now c.args.from c.args.to c.args.n c.args.last c.pick-head.result c.pick-spot.result
           c.requires.numbered.0 c.requires.numbered.1.0 c.requires.numbered.1.1 c.requires.some.0 c.requires.some.1 c.requires.last
           (λ e. (c.pick-head.ensures.0 e, c.pick-spot.ensures.0 e)) (λ q. (c.pick-head.ensures.1 q, c.pick-spot.ensures.1 q)),
     )
-
-pub invariant-of-self : goal.invariant-of-self
-invariant-of-self c =
-    chains-kept c.args.self.now c.args.from c.args.to c.args.n c.args.last c.pick-head.result c.pick-spot.result
-    c.requires.numbered.0 c.requires.numbered.1.0 c.requires.numbered.1.1 c.requires.some.0 c.requires.some.1 c.requires.last
-    (λ e. (c.pick-head.ensures.0 e, c.pick-spot.ensures.0 e)) (λ q. (c.pick-head.ensures.1 q, c.pick-spot.ensures.1 q))
 
 pub returns : goal.returns
 returns c =
@@ -34,3 +19,27 @@ returns c =
           c.requires.numbered.0 c.requires.numbered.1.0 c.requires.numbered.1.1 c.requires.some.0 c.requires.some.1 c.requires.last
           (λ e. (c.pick-head.ensures.0 e, c.pick-spot.ensures.0 e)) (λ q. (c.pick-head.ensures.1 q, c.pick-spot.ensures.1 q));
     }
+
+pub invariant_of-self-clause-below : goal.invariant_of-self-clause-below
+invariant_of-self-clause-below c =
+    below_new c.args.self.now c.args.from c.args.to c.args.n c.args.last c.pick-head.result c.pick-spot.result
+    c.requires.numbered.0 c.requires.numbered.1.0 c.requires.numbered.1.1 c.requires.some.0 c.requires.some.1 c.requires.last
+    (λ e. (c.pick-head.ensures.0 e, c.pick-spot.ensures.0 e)) (λ q. (c.pick-head.ensures.1 q, c.pick-spot.ensures.1 q))
+
+pub invariant_of-self-clause-apart : goal.invariant_of-self-clause-apart
+invariant_of-self-clause-apart c =
+    apart_new c.args.self.now c.args.from c.args.to c.args.n c.args.last c.pick-head.result c.pick-spot.result
+    c.requires.numbered.0 c.requires.numbered.1.0 c.requires.numbered.1.1 c.requires.some.0 c.requires.some.1 c.requires.last
+    (λ e. (c.pick-head.ensures.0 e, c.pick-spot.ensures.0 e)) (λ q. (c.pick-head.ensures.1 q, c.pick-spot.ensures.1 q))
+
+pub invariant_of-self-clause-ends : goal.invariant_of-self-clause-ends
+invariant_of-self-clause-ends c =
+    ends_new c.args.self.now c.args.from c.args.to c.args.n c.args.last c.pick-head.result c.pick-spot.result
+    c.requires.numbered.0 c.requires.numbered.1.0 c.requires.numbered.1.1 c.requires.some.0 c.requires.some.1 c.requires.last
+    (λ e. (c.pick-head.ensures.0 e, c.pick-spot.ensures.0 e)) (λ q. (c.pick-head.ensures.1 q, c.pick-spot.ensures.1 q))
+
+pub invariant_of-self-clause-total : goal.invariant_of-self-clause-total
+invariant_of-self-clause-total c =
+    total_new c.args.self.now c.args.from c.args.to c.args.n c.args.last c.pick-head.result c.pick-spot.result
+    c.requires.numbered.0 c.requires.numbered.1.0 c.requires.numbered.1.1 c.requires.some.0 c.requires.some.1 c.requires.last
+    (λ e. (c.pick-head.ensures.0 e, c.pick-spot.ensures.0 e)) (λ q. (c.pick-head.ensures.1 q, c.pick-spot.ensures.1 q))
