@@ -52,9 +52,9 @@ module _ (next : List ℕ) (links : (k : ℕ) → k < 127 → at next k ≡ k + 
 
   pub apart_fresh : Apart next heads counts
   apart_fresh w e =
-      let p = only_free w.a w.k w.a-low w.k-low in
-      let q = only_free w.c w.j w.c-low w.j-low in
-      (p.0 ∙ sym q.0, sym (cell_is w.a w.k w.a-low p.1) ∙ e ∙ cell_is w.c w.j w.c-low q.1)
+      let p = only_free w.a w.k w.a_low w.k_low in
+      let q = only_free w.c w.j w.c_low w.j_low in
+      (p.0 ∙ sym q.0, sym (cell_is w.a w.k w.a_low p.1) ∙ e ∙ cell_is w.c w.j w.c_low q.1)
 
   pub ends_fresh : Ends next heads tails counts
   ends_fresh a la pos =

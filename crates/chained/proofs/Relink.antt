@@ -18,8 +18,8 @@ Stayed f t n size a k a₀ k₀ = (a₀ ≡ a) × (a ≡ f → k₀ ≡ k + n) �
 record Old (N : ℕ → ℕ → ℕ) (counts : List ℕ) (f t n y a k : ℕ) : Type 0 where
   a₀ : ℕ
   k₀ : ℕ
-  a-low : a₀ < 65
-  k-low : k₀ < at counts a₀
+  a_low : a₀ < 65
+  k_low : k₀ < at counts a₀
   is : y ≡ N a₀ k₀
   how : Gone f t n (at counts t) a k a₀ k₀ ⊎ Stayed f t n (at counts t) a k a₀ k₀
 
@@ -72,7 +72,7 @@ module _ (l : Links) (f t n y h s : ℕ) (lf : f < 65) (lt : t < 65) (ne : f ≢
 
   apart : (a k c j : ℕ) → a < 65 → k < size a → c < 65 → j < size c → N a k ≡ N c j → (a ≡ c) × (k ≡ j)
   apart a k c j p q r u e =
-      l.apart (record { a = a; k = k; c = c; j = j; a-low = p; k-low = q; c-low = r; j-low = u }) e
+      l.apart (record { a = a; k = k; c = c; j = j; a_low = p; k_low = q; c_low = r; j_low = u }) e
 
   -- the cell whose link changes
   spot : ((size t ≡ 0) × (h ≡ x) × (s ≡ N f (n - 1))) ⊎ ((0 < size t) × (h ≡ at l.heads t) × (s ≡ N t (size t - 1)))
@@ -177,8 +177,8 @@ module _ (l : Links) (f t n y h s : ℕ) (lf : f < 65) (lt : t < 65) (ne : f ≢
             record {
               a₀ = f;
               k₀ = k + n;
-              a-low = lf;
-              k-low = m;
+              a_low = lf;
+              k_low = m;
               is = ap (λ z. N' z k) af ∙ front k m;
               how = inr (sym af, (λ _. refl), (λ q. absurd (q af)), (λ e. absurd (ne (sym af ∙ e))));
             })
@@ -190,8 +190,8 @@ module _ (l : Links) (f t n y h s : ℕ) (lf : f < 65) (lt : t < 65) (ne : f ≢
                         record {
                           a₀ = t;
                           k₀ = k;
-                          a-low = lt;
-                          k-low = m;
+                          a_low = lt;
+                          k_low = m;
                           is = ap (λ z. N' z k) here ∙ back k m;
                           how = inr (sym here, (λ e. absurd (nf e)), (λ _. refl), (λ _. m));
                         }
@@ -202,8 +202,8 @@ module _ (l : Links) (f t n y h s : ℕ) (lf : f < 65) (lt : t < 65) (ne : f ≢
                         record {
                           a₀ = f;
                           k₀ = j;
-                          a-low = lf;
-                          k-low = omega arith;
+                          a_low = lf;
+                          k_low = omega arith;
                           is = ap (λ z. N' z k) here ∙ ap (N' t) e ∙ joined j low;
                           how = inl (refl, here, e, low);
                         })
@@ -213,8 +213,8 @@ module _ (l : Links) (f t n y h s : ℕ) (lf : f < 65) (lt : t < 65) (ne : f ≢
                   record {
                     a₀ = a;
                     k₀ = k;
-                    a-low = la;
-                    k-low = m;
+                    a_low = la;
+                    k_low = m;
                     is = other a k la nf nt m;
                     how = inr (refl, (λ e. absurd (nf e)), (λ _. refl), (λ e. absurd (nt e)));
                   })
@@ -222,13 +222,13 @@ module _ (l : Links) (f t n y h s : ℕ) (lf : f < 65) (lt : t < 65) (ne : f ≢
       ]
 
   pub below_new : Below next' heads' counts'
-  below_new a k la lk = let o = old a k la lk in omega (arith, o.is, l.below o.a₀ o.k₀ o.a-low o.k-low)
+  below_new a k la lk = let o = old a k la lk in omega (arith, o.is, l.below o.a₀ o.k₀ o.a_low o.k_low)
 
   pub apart_new : Apart next' heads' counts'
   apart_new w e =
-      let o = old w.a w.k w.a-low w.k-low in
-      let p = old w.c w.j w.c-low w.j-low in
-      let q = apart o.a₀ o.k₀ p.a₀ p.k₀ o.a-low o.k-low p.a-low p.k-low (sym o.is ∙ e ∙ p.is) in
+      let o = old w.a w.k w.a_low w.k_low in
+      let p = old w.c w.j w.c_low w.j_low in
+      let q = apart o.a₀ o.k₀ p.a₀ p.k₀ o.a_low o.k_low p.a_low p.k_low (sym o.is ∙ e ∙ p.is) in
       same_place f t n (size t) w.a w.k o.a₀ o.k₀ w.c w.j p.a₀ p.k₀ o.how p.how q.0 q.1
 
   tail-to : at tails' t ≡ y

@@ -60,10 +60,10 @@ free_left counts ls b lc ll total within numbered few room =
     let all : take 65 counts ≡ counts = take_all 65 counts (omega arith) in
     let less : sum (take 64 counts) ≤ sum (slice_set tops b n) =
     sum_le (take 64 counts) (slice_set tops b n) (omega (arith, length-set tops b n))
-    (λ k lk. let k-low : k < 64 = omega arith in
+    (λ k lk. let k_low : k < 64 = omega arith in
     elim (cases_eq k b) [
-      | inl e ↦ omega (arith, get_or-take 64 counts k 0 k-low, ap (at counts) e, ap (at (slice_set tops b n)) e, get_or-set_same tops b n 0 i₂)
-      | inr q ↦ omega (arith, get_or-take 64 counts k 0 k-low, get_or-set_other tops b k n 0 q, few k k-low, top k k-low)
+      | inl e ↦ omega (arith, get_or-take 64 counts k 0 k_low, ap (at counts) e, ap (at (slice_set tops b n)) e, get_or-set_same tops b n 0 i₂)
+      | inr q ↦ omega (arith, get_or-take 64 counts k 0 k_low, get_or-set_other tops b k n 0 q, few k k_low, top k k_low)
     ]) in
     omega (arith, sum_by_more (λ z. z) counts 64 0 i₁, ap sum all, less, sum_by-set (λ z. z) tops b n 0 i₂, top b numbered, sum-map limit_in ls)
 
@@ -139,7 +139,7 @@ module _ (ms : List Message) (c c' : Links) (b x : ℕ) (m : Message) (numbered 
 
   cell_off : (a k : ℕ) → a < 64 → k < at c.counts a → cell c.next c.heads a k ≢ x
   cell_off a k la lk e =
-      let p = c.apart (record { a = a; k = k; c = 64; j = 0; a-low = omega arith; k-low = lk; c-low = omega arith; j-low = some }) (e ∙ first) in
+      let p = c.apart (record { a = a; k = k; c = 64; j = 0; a_low = omega arith; k_low = lk; c_low = omega arith; j_low = some }) (e ∙ first) in
       omega (arith, p.0)
 
   pub put_count : at c'.counts b ≡ at c.counts b + 1

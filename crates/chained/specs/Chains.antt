@@ -29,10 +29,10 @@ pub record Places (counts : List ℕ) : Type 0 where
   pub k : ℕ
   pub c : ℕ
   pub j : ℕ
-  pub a-low : a < 65
-  pub k-low : k < at counts a
-  pub c-low : c < 65
-  pub j-low : j < at counts c
+  pub a_low : a < 65
+  pub k_low : k < at counts a
+  pub c_low : c < 65
+  pub j_low : j < at counts c
 
 abbrev pub Apart : List ℕ → List ℕ → List ℕ → Type 0
 Apart next heads counts = (w : Places counts) → cell next heads w.a w.k ≡ cell next heads w.c w.j → (w.a ≡ w.c) × (w.k ≡ w.j)

@@ -20,7 +20,7 @@ use Rattle.contracts.specs.Written.{Resolved}
 use Rattle.contracts.specs.Tables.{table_at, messages, states}
 use Rattle.contracts.specs.Acceptance.{Breaks, Tabled}
 use Rattle.contracts.specs.Judgement.{Inhabited, Within}
-use Rattle.contracts.proofs.Ranges.{few-contracts, few-messages, few-states, proper}
+use Rattle.contracts.proofs.Ranges.{few-contracts, few_messages, few_states, proper}
 
 pub same_parts : (t : Tree) (hs : List Head) (es : List MoveEntry) → hs ≡ row_items t.heads → es ≡ row_items t.moves → as_parts hs es ≡ parts t
 same_parts t hs es e f = rw (e, f) refl
@@ -33,9 +33,9 @@ module _ (p : Parts) (ds : List Declaration) (ws : List Written) (n : Numbers p 
   resolved r i = record {
     some = omega (arith, n.declared.count, i.some);
     few = few-contracts p ds ws r n;
-    few-messages = few-messages p ds ws r n;
-    some-states = λ k l. let j : k < length p.heads = omega (arith, n.declared.count) in omega (arith, (n.declared.each k l).state-count, i.stated k j);
-    few-states = few-states p ds ws r n;
+    few_messages = few_messages p ds ws r n;
+    some_states = λ k l. let j : k < length p.heads = omega (arith, n.declared.count) in omega (arith, (n.declared.each k l).state_count, i.stated k j);
+    few_states = few_states p ds ws r n;
     proper = proper p ds ws r n;
   }
 
@@ -50,10 +50,10 @@ module _ (p : Parts) (ds : List Declaration) (ws : List Written) (n : Numbers p 
     of_contract = omega (arith, own, n.declared.count)
 
     of_state : (s : ℕ) → s < states (table_at tables k) → s < length (head_at p.heads k).states
-    of_state s h = omega (arith, h, ap (λ d. d.state_count) (t.each k l).declaration, (n.declared.each k own).state-count)
+    of_state s h = omega (arith, h, ap (λ d. d.state_count) (t.each k l).declaration, (n.declared.each k own).state_count)
 
     of_message : (m : ℕ) → m < messages (table_at tables k) → m < length (head_at p.heads k).messages
-    of_message m h = omega (arith, h, ap (λ d. d.message_count) (t.each k l).declaration, (n.declared.each k own).message-count)
+    of_message m h = omega (arith, h, ap (λ d. d.message_count) (t.each k l).declaration, (n.declared.each k own).message_count)
 
   pub within : (rule : Broken) → Breaks ds ws rule → Within p rule
   within (b.WrongMark i) h = of_move i h.0.0

@@ -1,5 +1,5 @@
 -- The numbers of a file are in range.
---   few-contracts, few-messages, few-states    counts
+--   few-contracts, few_messages, few_states    counts
 --   proper          a move has its contract's, its states' and its message's number
 --   payload-end     an end that a message carries has the number of a contract and of its state
 --   end-declared    the same, of a declaration
@@ -29,20 +29,20 @@ module _ (p : Parts) (ds : List Declaration) (ws : List Written) (r : Ranged p) 
   pub few-contracts : length ds ≤ 8
   few-contracts = omega (arith, r.contracts, n.declared.count)
 
-  pub few-messages : (k : ℕ) → k < length ds → (declaration_at ds k).message_count ≤ 16
-  few-messages k l = omega (arith, r.messages k, (n.declared.each k l).message-count)
+  pub few_messages : (k : ℕ) → k < length ds → (declaration_at ds k).message_count ≤ 16
+  few_messages k l = omega (arith, r.messages k, (n.declared.each k l).message_count)
 
-  pub few-states : (k : ℕ) → k < length ds → (declaration_at ds k).state_count ≤ 16
-  few-states k l = omega (arith, r.states k, (n.declared.each k l).state-count)
+  pub few_states : (k : ℕ) → k < length ds → (declaration_at ds k).state_count ≤ 16
+  few_states k l = omega (arith, r.states k, (n.declared.each k l).state_count)
 
   pub end-declared : (k m : ℕ) (role : Role) (c s : ℕ) → k < length ds → m < (declaration_at ds k).message_count
       → (get_or (declaration_at ds k).messages m quiet).payload ≡ End role c s → (c < length ds) × (s < (declaration_at ds c).state_count)
   end-declared k m role c s l b e =
       let d = n.declared.each k l
-      in let i : m < length (head_at p.heads k).messages = omega (arith, d.message-count)
+      in let i : m < length (head_at p.heads k).messages = omega (arith, d.message_count)
       in let w = payload-end p.heads _ _ role c s (d.messages m i).payload e
       in let j : c < length ds = omega (arith, w.0, n.declared.count)
-      in (j, omega (arith, w.1, (n.declared.each c j).state-count))
+      in (j, omega (arith, w.1, (n.declared.each c j).state_count))
 
   pub proper : (i : ℕ) → i < length ws → ((written_at ws i).contract < length ds)
       × ((written_at ws i).state < (declaration_at ds (written_at ws i).contract).state_count)
@@ -54,7 +54,7 @@ module _ (p : Parts) (ds : List Declaration) (ws : List Written) (r : Ranged p) 
       in let o = r.owners i j
       in let k : (get_or p.moves i no_move).contract < length ds = omega (arith, o.0, n.declared.count)
       in let d = n.declared.each (get_or p.moves i no_move).contract k
-      in rw w.contract (k, omega (arith, w.state, o.1, d.state-count), omega (arith, w.message.0, d.message-count), omega (arith, w.target.0, d.state-count))
+      in rw w.contract (k, omega (arith, w.state, o.1, d.state_count), omega (arith, w.message.0, d.message_count), omega (arith, w.target.0, d.state_count))
 
 module _ (p : Parts) (ds : List Declaration) (ws : List Written) (n : Numbers p ds ws) where
   pub all-declared : (d : Ident) → Unresolved p d → ⊥

@@ -26,8 +26,8 @@ declared-at ds ws resolved c s m u (i, l, o, x, y, z) =
 pub small_at : (ds : List Declaration) (ws : List Written) → Resolved ds ws → (i : ℕ) → i < length ws → ((written_at ws i).state < 16) × ((written_at ws i).message < 16)
 small_at ds ws resolved i l =
     let (a, b, d, e) = resolved.proper i l in
-    let few = resolved.few-states (written_at ws i).contract a in
-    let few-too = resolved.few-messages (written_at ws i).contract a in
+    let few = resolved.few_states (written_at ws i).contract a in
+    let few-too = resolved.few_messages (written_at ws i).contract a in
     omega arith
 
 module _ (ds : List Declaration) (ws : List Written) (c : ℕ) (t : Table) (holds : Holds t ds ws c) (marked : Marked ds ws) where
@@ -75,7 +75,7 @@ module _ (ds : List Declaration) (ws : List Written) (resolved : Resolved ds ws)
   pub each-inhabited : Each (λ t. 0 < states t) ts
   each-inhabited k l =
       let within : k < length ds = omega (arith, tabled.count) in
-      subst (λ (x : Declaration). 0 < x.state_count) (sym (tabled.each k l).declaration) (resolved.some-states k within)
+      subst (λ (x : Declaration). 0 < x.state_count) (sym (tabled.each k l).declaration) (resolved.some_states k within)
 
   pub each-positional : Each Positional ts
   each-positional k l = positional-from ds ws k (table_at ts k) (tabled.each k l) marked

@@ -96,17 +96,17 @@ module _ (p : Parts) (distinct : Distinct p) where
 -- two lists of declarations agree on all that they declare but names
 record Agree (ds ds' : List Declaration) : Type 0 where
   pub count : length ds ≡ length ds'
-  pub message-count : (k : ℕ) → k < length ds → (declaration_at ds k).message_count ≡ (declaration_at ds' k).message_count
-  pub state-count : (k : ℕ) → k < length ds → (declaration_at ds k).state_count ≡ (declaration_at ds' k).state_count
+  pub message_count : (k : ℕ) → k < length ds → (declaration_at ds k).message_count ≡ (declaration_at ds' k).message_count
+  pub state_count : (k : ℕ) → k < length ds → (declaration_at ds k).state_count ≡ (declaration_at ds' k).state_count
   pub message : (k m : ℕ) → k < length ds → m < (declaration_at ds k).message_count → get_or (declaration_at ds k).messages m quiet ≡ get_or (declaration_at ds' k).messages m quiet
 
 agree : (p : Parts) → Distinct p → (ds ds' : List Declaration) (ws ws' : List Written) → Numbers p ds ws → Numbers p ds' ws' → Agree ds ds'
 agree p distinct ds ds' ws ws' n n' = record {
   count = n.declared.count ∙ sym n'.declared.count;
-  message-count = λ k l. (n.declared.each k l).message-count ∙ sym (n'.declared.each k (other k l)).message-count;
-  state-count = λ k l. (n.declared.each k l).state-count ∙ sym (n'.declared.each k (other k l)).state-count;
+  message_count = λ k l. (n.declared.each k l).message_count ∙ sym (n'.declared.each k (other k l)).message_count;
+  state_count = λ k l. (n.declared.each k l).state_count ∙ sym (n'.declared.each k (other k l)).state_count;
   message = λ k m l b.
-      let w : m < length (head_at p.heads k).messages = omega (arith, (n.declared.each k l).message-count) in
+      let w : m < length (head_at p.heads k).messages = omega (arith, (n.declared.each k l).message_count) in
       one_message_as p distinct _ _ _ ((n.declared.each k l).messages m w) ((n'.declared.each k (other k l)).messages m w);
 }
   where
@@ -115,8 +115,8 @@ agree p distinct ds ds' ws ws' n n' = record {
 
 -- all that one table has, the other has too
 record SameTable (t t' : Table) : Type 0 where
-  pub message-count : messages t ≡ messages t'
-  pub state-count : states t ≡ states t'
+  pub message_count : messages t ≡ messages t'
+  pub state_count : states t ≡ states t'
   pub message : (m : ℕ) → m < messages t → message_at t m ≡ message_at t' m
   pub goes : (s m u : ℕ) → Goes t.moves s m u → Goes t'.moves s m u
 
@@ -126,8 +126,8 @@ module _ (ds ds' : List Declaration) (ws : List Written) (tables tables' : List 
 
   same_tables : (k : ℕ) → k < length tables → SameTable (table_at tables k) (table_at tables' k)
   same_tables k l = record {
-    message-count = ap (λ d. d.message_count) here ∙ same.message-count k own ∙ sym (ap (λ d. d.message_count) there);
-    state-count = ap (λ d. d.state_count) here ∙ same.state-count k own ∙ sym (ap (λ d. d.state_count) there);
+    message_count = ap (λ d. d.message_count) here ∙ same.message_count k own ∙ sym (ap (λ d. d.message_count) there);
+    state_count = ap (λ d. d.state_count) here ∙ same.state_count k own ∙ sym (ap (λ d. d.state_count) there);
     message = λ m b.
         let w : m < (declaration_at ds k).message_count = omega (arith, ap (λ d. d.message_count) here) in
         ap (λ d. get_or d.messages m quiet) here ∙ same.message k m own w ∙ sym (ap (λ d. get_or d.messages m quiet) there);
@@ -161,7 +161,7 @@ sendable : (tables tables' : List Table) → length tables ≡ length tables' �
 sendable tables tables' count same Nothing h = tt
 sendable tables tables' count same Block h = tt
 sendable tables tables' count same (End role c s) (l, b, (u, h)) =
-    (omega arith, (let e = (same c l).state-count in omega arith), (u, along (table_at tables c) (table_at tables' c) (same c l) (Some (sends role)) s u h))
+    (omega arith, (let e = (same c l).state_count in omega arith), (u, along (table_at tables c) (table_at tables' c) (same c l) (Some (sends role)) s u h))
 
 module _ (p : Parts) (ds ds' : List Declaration) (ws : List Written) (tables : List Table) (n : Numbers p ds ws) (same : Agree ds ds') (same' : Agree ds' ds) (kept : Accepted ds ws tables) where
   right_mark : (i : ℕ) → i < length ws → get_or (declaration_at ds (written_at ws i).contract).messages (written_at ws i).message quiet ≡ get_or (declaration_at ds' (written_at ws i).contract).messages (written_at ws i).message quiet
@@ -170,7 +170,7 @@ module _ (p : Parts) (ds ds' : List Declaration) (ws : List Written) (tables : L
       let named : (written_at ws i).message < length (head_at p.heads (written_at ws i).contract).messages = rw w.contract w.message.0 in
       let k = declaring (λ x. x.messages) p.heads (written_at ws i).contract (written_at ws i).message refl named in
       let own : (written_at ws i).contract < length ds = omega (arith, n.declared.count) in
-      same.message (written_at ws i).contract (written_at ws i).message own (omega (arith, (n.declared.each (written_at ws i).contract own).message-count))
+      same.message (written_at ws i).contract (written_at ws i).message own (omega (arith, (n.declared.each (written_at ws i).contract own).message_count))
 
   module _ (tables' : List Table) (made' : Tabled ds' ws tables') (k : ℕ) (l : k < length tables') where
     there : (j : ℕ) → j < length tables → SameTable (table_at tables j) (table_at tables' j)
@@ -187,7 +187,7 @@ module _ (p : Parts) (ds ds' : List Declaration) (ws : List Written) (tables : L
 
     none_unreached : (s : ℕ) → Unreached (table_at tables' k) s → ⊥
     none_unreached s (b, h) =
-        ∥∥₁_elim (kept.gathered.reachable k own s (let e = back.state-count in omega arith)) ⊥_prop
+        ∥∥₁_elim (kept.gathered.reachable k own s (let e = back.state_count in omega arith)) ⊥_prop
         (λ q. h (q.0, path (table_at tables k) (table_at tables' k) (there k own) None q.1))
 
     none_cycling : (s : ℕ) → Cycling (table_at tables' k) s → ⊥
@@ -195,7 +195,7 @@ module _ (p : Parts) (ds ds' : List Declaration) (ws : List Written) (tables : L
 
     none_silent : (m : ℕ) → SilentEnd tables' (table_at tables' k) m → ⊥
     none_silent m (b, h) =
-        ∥∥₁_elim (kept.gathered.lawful k own m (let e = back.message-count in omega arith)) ⊥_prop
+        ∥∥₁_elim (kept.gathered.lawful k own m (let e = back.message_count in omega arith)) ⊥_prop
         (λ q. h (sendable tables tables' count there _ (subst (λ (x : Message). Sendable tables x.payload) (sym (back.message m b)) q)))
 
   none-broken : (rule : Broken) → Breaks ds' ws rule → ⊥

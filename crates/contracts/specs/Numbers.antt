@@ -62,8 +62,8 @@ StatesAs xs ys = (s : ℕ) → s < length xs → slice_index_or ys s no_name ≡
 
 pub record DeclaredAs (hs : List HeadTree) (h : HeadTree) (d : Declaration) : Type 0 where
   pub name : d.name ≡ h.ident.name
-  pub message-count : d.message_count ≡ length h.messages
-  pub state-count : d.state_count ≡ length h.states
+  pub message_count : d.message_count ≡ length h.messages
+  pub state_count : d.state_count ≡ length h.states
   pub messages : MessagesAs hs h.messages d.messages
   pub states : StatesAs h.states d.states
 

@@ -41,9 +41,9 @@ Proper ds w =
 pub record Resolved (ds : List Declaration) (ws : List Written) : Type 0 where
   pub some : 0 < length ds
   pub few : length ds ≤ 8
-  pub few-messages : (k : ℕ) → k < length ds → (declaration_at ds k).message_count ≤ 16
-  pub some-states : (k : ℕ) → k < length ds → 0 < (declaration_at ds k).state_count
-  pub few-states : (k : ℕ) → k < length ds → (declaration_at ds k).state_count ≤ 16
+  pub few_messages : (k : ℕ) → k < length ds → (declaration_at ds k).message_count ≤ 16
+  pub some_states : (k : ℕ) → k < length ds → 0 < (declaration_at ds k).state_count
+  pub few_states : (k : ℕ) → k < length ds → (declaration_at ds k).state_count ≤ 16
   pub proper : (i : ℕ) → i < length ws → Proper ds (written_at ws i)
 
 abbrev pub Listed : List Written → ℕ → ℕ → ℕ → ℕ → ℕ → Type 0

@@ -5,15 +5,15 @@ use Rattle.syntax.specs.Rows.{row_items}
 use Rattle.syntax.specs.Trees.{declares}
 use Rattle.contracts.specs.Names.{head_at}
 use Rattle.contracts.specs.Numbers.{DeclaredAs, undeclared}
-use Rattle.contracts.proofs.Numbered.{few-messages, few-states, head_declares, heads_missing, pushed}
+use Rattle.contracts.proofs.Numbered.{few_messages, few_states, head_declares, heads_missing, pushed}
 use Rattle.contracts.proofs.declared.declarations.Goals as goal
 
 pub declaration-requires : goal.declaration-requires
 declaration-requires c =
     record {
       sized = c.requires;
-      messages = few-messages c.args.heads.now c.loop-head.head-index c.requires;
-      states = few-states c.args.heads.now c.loop-head.head-index c.requires;
+      messages = few_messages c.args.heads.now c.loop-head.head-index c.requires;
+      states = few_states c.args.heads.now c.loop-head.head-index c.requires;
     }
 
 pub returns-in_err-next : goal.returns-in_err-next

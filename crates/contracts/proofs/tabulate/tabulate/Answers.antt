@@ -10,8 +10,8 @@ fill-rows-requires c = record {
 
 pub invariant_of-result : goal.invariant_of-result
 invariant_of-result c = record {
-  few_messages = c.requires.resolved.few-messages c.args.c c.requires.within;
-  few_states = c.requires.resolved.few-states c.args.c c.requires.within;
+  few_messages = c.requires.resolved.few_messages c.args.c c.requires.within;
+  few_states = c.requires.resolved.few_states c.args.c c.requires.within;
   declared = λ v. declared-at c.args.declarations.now c.args.moves.now c.requires.resolved c.args.c v.from v.by v.to (c.fill-rows.ensures.listed v.from v.by v.to v.goes);
 }
 
