@@ -1,7 +1,7 @@
-#![tactic(auto)]
-
 // Runs a table of contract texts through the checker: each line of the input is a text in hexadecimal, each line of the
 // output its answer, the fault or the listing with its lines joined by '|'. A line that begins with '#' names what follows.
+#![tactic(auto)]
+
 #[cfg(test)]
 mod tests;
 

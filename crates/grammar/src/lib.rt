@@ -1,4 +1,4 @@
-// What the grammars of contract files and script files share: words as a grammar asks for them, lists in tables, and faults.
+// What a grammar rests on: words as it asks for them, lists in tables, and faults.
 #![tactic(auto)]
 
 pub mod fault;

@@ -3,7 +3,7 @@
 --   way_text d, sign_text d, role_text r     "out" or "in", "!" or "?", "exp" or "imp"
 --   message_line x           " message WAY NAME [block | ROLE C S]"
 --   move_line m d u          "  move M! T"
---   movesText t s, state_text t s, message_text t m     the moves of a state; a state with its moves; a message
+--   move_text t s m, state_text t s, message_text t m     the move of a state for a message, if any; a state with its moves; a message
 --   contract_text t b c      a contract with the bounds b and c
 --   ListsContract ts k s    s lists contract k, with the moves on its longest one-way paths as its bounds
 --   Lists ts n s            s lists the first n contracts of ts, one after the other

@@ -2,7 +2,7 @@
 --   digit_of b              the digit of a byte
 --   magnitude_of bs         the number that one to three digits say
 --   value_of bs             the number that digits say, with a minus before them or none
---   inRange low high v     whether a number is one from low to high
+--   is_in_range low high v  whether a number is one from low to high
 --   natural_of v            a number that is not negative
 use Rattle.std.specs.Prelude.{ℕ, ◌+◌, ◌-◌, ◌*◌, Bool, cond, ◌&&◌, List, [], ◌∷◌, ℤ, pos, negsuc, neg_ℤ, ◌==◌, int_le}
 
