@@ -1,12 +1,21 @@
 // A list of at most N elements in a table of its own.
 ghost use Rattle.std.specs.Prelude.{◌≡◌, ℕ, ◌+◌, ◌<◌, ◌≤◌, true, false, List, [], ◌∷◌, ◌++◌, length, take};
 
+use std::alloc::AllocError;
+
 /// At most `N` elements, in order.
-#[derive(Drop)]
 pub struct Row<T, const N: usize> {
     items: [T; N],
     len: usize,
     ghost few: { len ≤ N },
+}
+
+impl<T: Copy, const N: usize> Copy for Row<T, N> {}
+
+impl<T: Copy, const N: usize> Clone for Row<T, N> {
+    fn clone(&self) -> Result<Row<T, N>, AllocError> {
+        Ok(*self)
+    }
 }
 
 impl<T: Copy, const N: usize> Row<T, N> {
