@@ -50,20 +50,14 @@ fn number<'a>(bytes: &'a [u8], minus: usize, place: usize) -> Result<Word<'a>, u
 fn minus<'a>(bytes: &'a [u8], place: usize) -> Result<Word<'a>, usize>
     ensures { word_or result ≡ placed place (minus_lexeme bytes.now place) }
 {
-    if bytes.len() < 2 {
-        return Err(1);
-    }
-    let second = bytes[1];
-    if second == b'>' {
-        return Ok(Word::Mark {
+    match bytes {
+        [_, b'>', ..] => Ok(Word::Mark {
             place,
             mark: Mark::Arrow,
-        });
+        }),
+        [_, second, ..] if is_digit(*second) => number(bytes, 1, place),
+        _ => Err(1),
     }
-    if is_digit(second) {
-        return number(bytes, 1, place);
-    }
-    Err(1)
 }
 
 /// The mark that is one byte, or that the byte begins no word.
