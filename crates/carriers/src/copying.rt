@@ -31,7 +31,7 @@ impl Copying {
         ensures boxes { copied result.limits result.rows ≡ replicate 64 closed }
     {
         Copying {
-            limits: Limits::new(Self::pool_size()),
+            limits: Limits::new(Self::POOL),
             rows: Rows::new(),
         }
     }
@@ -40,17 +40,13 @@ impl Copying {
 impl Carrier for Copying {
     const POOL: u16 = 960;
 
-    ghost pool = { 960 };
+    ghost POOL = { 960 };
 
     ghost boxes = { λ c. copied c.limits c.rows };
 
     ghost bounds = { Prim.search rules };
 
     ghost kept = { λ c. copied-kept c.limits c.rows c.few c.pool };
-
-    fn pool_size() -> u16 {
-        Self::POOL
-    }
 
     fn open(&mut self, b: u8, limit: u8) -> Result<(), CarrierRefusal> {
         self.open_box(b, limit)

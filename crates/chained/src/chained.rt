@@ -34,7 +34,7 @@ impl Chained {
     pub fn new() -> Chained
         ensures boxes { chained result.limits result.links result.messages ≡ replicate 64 closed }
     {
-        Chained::over(Limits::new(Self::pool_size()))
+        Chained::over(Limits::new(Self::POOL))
     }
 
     /// All cells free, where no limit is drawn.
@@ -58,17 +58,13 @@ impl Chained {
 impl Carrier for Chained {
     const POOL: u16 = 128;
 
-    ghost pool = { 128 };
+    ghost POOL = { 128 };
 
     ghost boxes = { λ c. chained c.limits c.links c.messages };
 
     ghost bounds = { Prim.search rules };
 
     ghost kept = { λ c. chained-kept c.limits c.links c.messages c.few c.pool c.ranged };
-
-    fn pool_size() -> u16 {
-        Self::POOL
-    }
 
     fn open(&mut self, b: u8, limit: u8) -> Result<(), CarrierRefusal> {
         self.open_box(b, limit)

@@ -17,7 +17,7 @@ fn relay<C: Carrier>(
     first: Message,
     second: Message,
 ) -> Result<Message, CarrierRefusal>
-    ensures done { b < 64 → is_open (box_at (C.Carrier.boxes carrier.old) b) ≡ false → all_limits (C.Carrier.boxes carrier.old) + 2 ≤ C.Carrier.pool →
+    ensures done { b < 64 → is_open (box_at (C.Carrier.boxes carrier.old) b) ≡ false → all_limits (C.Carrier.boxes carrier.old) + 2 ≤ C.Carrier.POOL →
         Ranged first → Ranged second → (result ≡ Ok first) × (C.Carrier.boxes carrier.new ≡ C.Carrier.boxes carrier.old) }
 {
     carrier.open(b, 2)?;
