@@ -3,6 +3,7 @@ ghost use Rattle.std.specs.Prelude.{◌≡◌, ◌+◌, ◌^◌, ◌<◌, length
 ghost use Rattle.carriers.specs.Calls.{AskRefused};
 ghost use Rattle.carriers.specs.Limits.{limit_in, allotted, Low, ClosedRefused};
 
+use crate::box_number::BoxNumber;
 use crate::refusal::CarrierRefusal;
 
 mod draw;
@@ -37,10 +38,8 @@ impl Limits {
     pub fn at(&self, b: u8) -> Result<u8, CarrierRefusal>
         ensures answer { MatchResult result (λ n. (b < 64) × (n ≡ limit_in (slice_index_or self.now.limits b None))) (AskRefused b) }
     {
-        if b > 63 {
-            return Err(CarrierRefusal::OutOfRange);
-        }
-        match self.limits[b as usize] {
+        let b = BoxNumber::try_from(b)?;
+        match self.limits[b.index()] {
             Some(limit) => Ok(limit),
             None => Ok(0),
         }
@@ -52,10 +51,8 @@ impl Limits {
             (λ n. (b < 64) × (slice_index_or self.now.limits b None ≡ Some n))
             (ClosedRefused b (slice_index_or self.now.limits b None)) }
     {
-        if b > 63 {
-            return Err(CarrierRefusal::OutOfRange);
-        }
-        match self.limits[b as usize] {
+        let b = BoxNumber::try_from(b)?;
+        match self.limits[b.index()] {
             Some(limit) => Ok(limit),
             None => Err(CarrierRefusal::OpenOrClosed),
         }

@@ -1,21 +1,19 @@
 -- The messages in the cells of the chains, after a cell was taken from the free ones, given back, or all of a box were.
-use Rattle.std.specs.Prelude.{◌≡◌, ℕ, suc, ◌+◌, ◌-◌, ◌<◌, ◌≤◌, true, ◌≢◌, List, [], ◌∷◌, ◌++◌, map, length, get_or, take, Some, None, sum, Option, nat_lt, slice_index_or, slice_set, refl}
+use Rattle.std.specs.Prelude.{◌≡◌, ℕ, ◌+◌, ◌-◌, ◌<◌, true, ◌≢◌, List, [], ◌∷◌, ◌++◌, map, length, get_or, take, Some, None, sum, Option, nat_lt, slice_index_or, slice_set, refl}
 use Rattle.std.proofs.Common.{sym, ap, ◌∙◌, subst, inl, inr, arith, zero-add}
 use Rattle.std.specs.List.{range_with_len, AllByRecursion}
-use Rattle.std.proofs.lemmas.List.{get_or-set_same, get_or-set_other, length-set, length-map, get_or-map, take_all, length-take-le, get_or-take}
-use Rattle.std.proofs.lemmas.List.FromFn.{length-map-range_with_len, get_or-map-range_with_len}
+use Rattle.std.proofs.lemmas.List.{get_or-set_same, get_or-set_other, length-set, take_all, length-take-le, get_or-take}
+use Rattle.std.proofs.lemmas.List.FromFn.{fill_by_all, length-map-range_with_len, get_or-map-range_with_len}
 use Rattle.std.proofs.ByRecursion.{All-from_get_or}
-use Rattle.std.proofs.lemmas.List.Sums.{sum_by-set, sum_by_more, sum_by-cons, sum-map}
+use Rattle.std.proofs.lemmas.List.Sums.{sum_by_more}
 use Rattle.std.proofs.lemmas.Bool.{cases_eq, and_parts, and_from, lt-ltb, ltb-true}
-use Rattle.carriers.specs.declared.limits.Limits.{Limits}
 use Rattle.carriers.specs.declared.message.Message.{Message}
-use Rattle.carriers.specs.Boxes.{Slot, Ranged, box_at, queue_of, limit_of, all_limits, Kept}
-use Rattle.carriers.specs.Limits.{limit_in, allotted, Few}
+use Rattle.carriers.specs.Boxes.{Slot, Ranged}
+use Rattle.carriers.specs.Stores.{all_waiting}
 use Rattle.carriers.specs.Counting.{map_counting_same, map_counting_push, map_counting_pop}
-use Rattle.carriers.specs.Tabled.{limit_at, queue_at, limits_together, boxes_kept}
 use Rattle.chained.specs.declared.links.Links.{Links}
 use Rattle.chained.specs.Chains.{at, cell, Moved, Cleared}
-use Rattle.chained.specs.Chained.{blank, slot_test, ranged_test, AllRanged, waiting, chained}
+use Rattle.chained.specs.Chained.{blank, slot_test, ranged_test, AllRanged, waiting}
 
 -- the test of a message's range
 slot_from : (p : Option ℕ) → slot_test p ≡ true → Slot p
@@ -41,37 +39,11 @@ ranged-set ms x m inside h all i =
       | inr q ↦ ap ranged_test (get_or-set_other ms x i m blank q) ∙ all i
     ]
 
--- sums of lists, one below the other
-sum_le : (xs ys : List ℕ) → length xs ≤ length ys → ((k : ℕ) → k < length xs → at xs k ≤ at ys k) → sum xs ≤ sum ys
-sum_le [] ys l h = omega arith
-sum_le (x ∷ xs) [] l h = absurd (omega arith)
-sum_le (x ∷ xs) (y ∷ ys) l h =
-    omega (arith, sum_by-cons (λ z. z) x xs, sum_by-cons (λ z. z) y ys, sum_le xs ys (omega arith) (λ k lk. h (suc k) (omega arith)), h 0 (omega arith))
-
-free_left : (counts : List ℕ) (ls : List (Option ℕ)) (b : ℕ) → length counts ≡ 65 → length ls ≡ 64 → sum counts ≡ 128 → allotted ls ≤ 128 → b < 64 → Few ls counts → at counts b < limit_in (slice_index_or ls b None) → 0 < at counts 64
-free_left counts ls b lc ll total within numbered few room =
-    let tops : List ℕ = map limit_in ls in
-    let n = limit_in (slice_index_or ls b None) - 1 in
-    let lt : length tops ≡ 64 = length-map ls limit_in ∙ ll in
-    let top : (k : ℕ) → k < 64 → at tops k ≡ limit_in (slice_index_or ls k None) = λ k h. (let i : k < length ls = omega arith in get_or-map limit_in ls k None 0 i) in
-    let i₁ : 64 < length counts = omega arith in
-    let i₂ : b < length tops = omega arith in
-    let long : length (take 64 counts) ≡ 64 = length-take-le 64 counts (omega arith) in
-    let all : take 65 counts ≡ counts = take_all 65 counts (omega arith) in
-    let less : sum (take 64 counts) ≤ sum (slice_set tops b n) =
-    sum_le (take 64 counts) (slice_set tops b n) (omega (arith, length-set tops b n))
-    (λ k lk. let k_low : k < 64 = omega arith in
-    elim (cases_eq k b) [
-      | inl e ↦ omega (arith, get_or-take 64 counts k 0 k_low, ap (at counts) e, ap (at (slice_set tops b n)) e, get_or-set_same tops b n 0 i₂)
-      | inr q ↦ omega (arith, get_or-take 64 counts k 0 k_low, get_or-set_other tops b k n 0 q, few k k_low, top k k_low)
-    ]) in
-    omega (arith, sum_by_more (λ z. z) counts 64 0 i₁, ap sum all, less, sum_by-set (λ z. z) tops b n 0 i₂, top b numbered, sum-map limit_in ls)
-
 -- the messages of a box
 pub length-waiting : (ms : List Message) (c : Links) (b : ℕ) → length (waiting ms c b) ≡ at c.counts b
 length-waiting ms c b = length-map-range_with_len (λ k. get_or ms (cell c.next c.heads b k) blank) 0 (at c.counts b)
 
-waiting-ranged : (ms : List Message) (c : Links) (b : ℕ) → AllRanged ms → AllByRecursion Ranged (waiting ms c b)
+pub waiting-ranged : (ms : List Message) (c : Links) (b : ℕ) → AllRanged ms → AllByRecursion Ranged (waiting ms c b)
 waiting-ranged ms c b ok =
     let f : ℕ → Message = λ k. get_or ms (cell c.next c.heads b k) blank in
     All-from_get_or Ranged (waiting ms c b) blank
@@ -83,28 +55,16 @@ waiting-same ms ms' c c' a n same =
     ap (λ i. map (λ k. get_or ms' (cell c'.next c'.heads a k) blank) (range_with_len 0 i)) n
     ∙ map_counting_same (λ k. get_or ms' (cell c'.next c'.heads a k) blank) (λ k. get_or ms (cell c.next c.heads a k) blank) (at c.counts a) same
 
--- the boxes of a chained carrier
-module _ (l : Limits) (c : Links) (ms : List Message) (few : Few l.limits c.counts) where
-  pub few-waiting : (b : ℕ) → b < 64 → length (waiting ms c b) ≤ limit_in (slice_index_or l.limits b None)
-  few-waiting b h = omega (arith, length-waiting ms c b, few b h)
-
-  pub chained-kept : l.spare + allotted l.limits ≡ 128 → AllRanged ms → Kept 128 (chained l c ms)
-  chained-kept whole ok =
-      boxes_kept l.limits (waiting ms c) l.sizes few-waiting 128 l.low (λ b. waiting-ranged ms c b ok) (omega arith)
-
-  pub chained-count : (b : ℕ) → b < 64 → length (queue_of (box_at (chained l c ms) b)) ≡ at c.counts b
-  chained-count b h = ap length (queue_at l.limits (waiting ms c) l.sizes few-waiting b h) ∙ length-waiting ms c b
-
-  pub chained_limit : (b : ℕ) → b < 64 → limit_of (box_at (chained l c ms) b) ≡ limit_in (slice_index_or l.limits b None)
-  chained_limit = limit_at l.limits (waiting ms c) l.sizes few-waiting
-
-  -- where an open box has room, a cell is free
-  pub free_cell : l.spare + allotted l.limits ≡ 128 → (b limit : ℕ) → b < 64 → slice_index_or l.limits b None ≡ Some limit → at c.counts b < limit → 0 < at c.counts 64
-  free_cell whole b limit numbered o room =
-      free_left c.counts l.limits b c.sizes.3 l.sizes c.total (omega arith) numbered few (omega (arith, ap limit_in o))
-
-  pub chained_limits : all_limits (chained l c ms) ≡ allotted l.limits
-  chained_limits = limits_together l.limits (waiting ms c) l.sizes few-waiting
+-- where not all cells are in use, one is free
+pub free_cell : (ms : List Message) (c : Links) → all_waiting (waiting ms c) < 128 → 0 < at c.counts 64
+unfolding all_waiting
+free_cell ms c below =
+    let i : 64 < length c.counts = omega (arith, c.sizes.3) in
+    let long : length (take 64 c.counts) ≡ 64 = length-take-le 64 c.counts (omega (arith, c.sizes.3)) in
+    let all : take 65 c.counts ≡ c.counts = take_all 65 c.counts (omega (arith, c.sizes.3)) in
+    let boxes : take 64 c.counts ≡ map (λ b. length (waiting ms c b)) (range_with_len 0 64) =
+    fill_by_all (λ b. length (waiting ms c b)) (take 64 c.counts) 64 0 long (λ k h. get_or-take 64 c.counts k 0 h ∙ sym (length-waiting ms c k)) in
+    omega (arith, below, c.total, sum_by_more (λ z. z) c.counts 64 0 i, ap sum all, ap sum boxes)
 
 -- the numbers of cells after one went from chain f to chain t
 module _ (c : Links) (f t : ℕ) (c' : Links) (lf : f < 65) (lt : t < 65) (ne : f ≢ t)
