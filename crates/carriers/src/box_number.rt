@@ -12,18 +12,19 @@ pub struct BoxNumber {
 }
 
 impl BoxNumber {
-    /// The number itself.
-    pub fn number(self) -> u8
-        ensures answer { result ≡ self.number }
-    {
-        self.number
-    }
-
     /// Where what belongs to the box stands in a table.
     pub fn index(self) -> usize
         ensures answer { result ≡ self.number }
     {
         self.number as usize
+    }
+}
+
+impl From<BoxNumber> for u8 {
+    ghost from_gives = { λ b n. n ≡ b.number };
+
+    fn from(which: BoxNumber) -> u8 {
+        which.number
     }
 }
 

@@ -66,7 +66,7 @@ impl<S: Store> Carrier for Limited<S> {
 
     fn take(&mut self, b: u8) -> Result<Message, CarrierRefusal> {
         let at = BoxNumber::try_from(b)?;
-        let _ = self.limits.of_open(b)?;
+        self.limits.of_open(b)?;
         if self.store.count(at) == 0 {
             return Err(CarrierRefusal::FullOrEmpty);
         }

@@ -43,20 +43,20 @@ impl Store for Cells {
     }
 
     fn count(&self, b: BoxNumber) -> u8 {
-        self.links.count(b.number())
+        self.links.count(u8::from(b))
     }
 
     fn push(&mut self, b: BoxNumber, message: Message) {
-        let cell = self.links.shift(FREE, b.number());
+        let cell = self.links.shift(FREE, u8::from(b));
         self.messages[cell as usize] = message;
     }
 
     fn pop(&mut self, b: BoxNumber) -> Message {
-        let cell = self.links.shift(b.number(), FREE);
+        let cell = self.links.shift(u8::from(b), FREE);
         self.messages[cell as usize]
     }
 
     fn clear(&mut self, b: BoxNumber) {
-        self.links.clear(b.number());
+        self.links.clear(u8::from(b));
     }
 }

@@ -1,13 +1,10 @@
-use Rattle.std.proofs.Common.{◌<◌, length, ◌∙◌, arith}
+use Rattle.std.proofs.Common.{◌<◌, length, sym, ◌∙◌, arith}
 use Rattle.carriers.specs.Waiting.{waiting_here, waiting-others}
 use Rattle.carriers.proofs.rows.RowsStore.clear.Goals as goal
 
-pub returns-clause-here : goal.returns-clause-here
-returns-clause-here c =
-    let s = c.args.self.now in
-    let b = c.args.b.number in
-    let inside : b < length s.rows = omega (arith, c.args.b.below) in
-    rw c.index.ensures.answer (waiting_here s.rows b _ inside ∙ c.clear.ensures.none)
-
-pub returns-clause-others : goal.returns-clause-others
-returns-clause-others c = rw c.index.ensures.answer (waiting-others c.args.self.now.rows c.args.b.number _)
+pub returns : goal.returns
+returns c =
+    let rows = c.args.self.now.rows in
+    let b = c.index.result in
+    let inside : b < length rows = omega (arith, c.index.ensures.answer, c.args.b.below) in
+    rw (sym c.index.ensures.answer) (record { here = waiting_here rows b _ inside ∙ c.clear.ensures.none; others = waiting-others rows b _ })

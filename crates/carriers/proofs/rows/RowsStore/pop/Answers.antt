@@ -2,13 +2,13 @@ use Rattle.std.proofs.Common.{◌<◌, ◌∷◌, length, sym, ap, ◌∙◌, ar
 use Rattle.carriers.specs.Waiting.{waiting_at, waiting_here, waiting-others}
 use Rattle.carriers.proofs.rows.RowsStore.pop.Goals as goal
 
-pub returns-clause-here : goal.returns-clause-here
-returns-clause-here c =
-    let s = c.args.self.now in
+pub returns : goal.returns
+returns c =
+    let rows = c.args.self.now.rows in
     let b = c.index.result in
-    let inside : b < length s.rows = omega (arith, c.index.ensures.answer, c.args.b.below) in
+    let inside : b < length rows = omega (arith, c.index.ensures.answer, c.args.b.below) in
     rw (sym c.index.ensures.answer)
-    (waiting_at s.rows b c.index-self-index.result inside ∙ c.pop.ensures.here ∙ ap (λ ms. c.pop.result ∷ ms) (sym (waiting_here s.rows b _ inside)))
-
-pub returns-clause-others : goal.returns-clause-others
-returns-clause-others c = rw c.index.ensures.answer (waiting-others c.args.self.now.rows c.args.b.number _)
+    (record {
+      here = waiting_at rows b c.index-self-index.result inside ∙ c.pop.ensures.here ∙ ap (λ ms. c.pop.result ∷ ms) (sym (waiting_here rows b _ inside));
+      others = waiting-others rows b _;
+    })

@@ -6,4 +6,4 @@ use Rattle.chained.proofs.cells.CellsStore.count.Goals as goal
 pub returns : goal.returns
 returns c =
     let s = c.args.self.now in
-    record { answer = c.count.ensures.answer ∙ ap (at s.links.counts) c.number.ensures.answer ∙ sym (length-waiting s.messages s.links c.args.b.number) }
+    record { answer = c.count.ensures.answer ∙ ap (at s.links.counts) c.from.ensures ∙ sym (length-waiting s.messages s.links c.args.b.number) }

@@ -3,20 +3,15 @@ use Rattle.chained.specs.Chains.{at}
 use Rattle.chained.specs.Cells.{length-waiting, take_here, take_others}
 use Rattle.chained.proofs.cells.CellsStore.pop.Goals as goal
 
-pub returns-clause-here : goal.returns-clause-here
-returns-clause-here c =
+pub returns : goal.returns
+returns c =
     let s = c.args.self.now in
-    let b = c.number.result in
-    let low : b < 64 = omega (arith, c.number.ensures.answer, c.args.b.below) in
-    let some : 0 < at s.links.counts b = omega (arith, c.requires.some, length-waiting s.messages s.links c.args.b.number, ap (at s.links.counts) c.number.ensures.answer) in
-    rw (sym c.number.ensures.answer)
-    (take_here s.messages s.links c.shift-cell.new.self b c.shift-cell.result low some c.shift-cell.ensures.first c.shift-cell.ensures.moved)
-
-pub returns-clause-others : goal.returns-clause-others
-returns-clause-others c =
-    let s = c.args.self.now in
-    let b = c.number.result in
-    let low : b < 64 = omega (arith, c.number.ensures.answer, c.args.b.below) in
-    let some : 0 < at s.links.counts b = omega (arith, c.requires.some, length-waiting s.messages s.links c.args.b.number, ap (at s.links.counts) c.number.ensures.answer) in
-    rw (sym c.number.ensures.answer)
-    (take_others s.messages s.links c.shift-cell.new.self b c.shift-cell.result low some c.shift-cell.ensures.first c.shift-cell.ensures.moved)
+    let b = c.from.result in
+    let e = c.from.ensures in
+    let low : b < 64 = omega (arith, e, c.args.b.below) in
+    let some : 0 < at s.links.counts b = omega (arith, c.requires.some, length-waiting s.messages s.links c.args.b.number, ap (at s.links.counts) e) in
+    rw (sym e)
+    (record {
+      here = take_here s.messages s.links c.shift-cell.new.self b c.shift-cell.result low some c.shift-cell.ensures.first c.shift-cell.ensures.moved;
+      others = take_others s.messages s.links c.shift-cell.new.self b c.shift-cell.result low some c.shift-cell.ensures.first c.shift-cell.ensures.moved;
+    })
