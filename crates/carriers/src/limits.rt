@@ -39,10 +39,7 @@ impl Limits {
         ensures answer { MatchResult result (λ n. (b < 64) × (n ≡ limit_in (slice_index_or self.now.limits b None))) (AskRefused b) }
     {
         let b = BoxNumber::try_from(b)?;
-        match self.limits[b.index()] {
-            Some(limit) => Ok(limit),
-            None => Ok(0),
-        }
+        Ok(self.limits[b.index()].unwrap_or(0))
     }
 
     /// The limit of an open box. Refused by 30 for a box above 63, by 31 for a closed one.
@@ -52,10 +49,7 @@ impl Limits {
             (ClosedRefused b (slice_index_or self.now.limits b None)) }
     {
         let b = BoxNumber::try_from(b)?;
-        match self.limits[b.index()] {
-            Some(limit) => Ok(limit),
-            None => Err(CarrierRefusal::OpenOrClosed),
-        }
+        self.limits[b.index()].ok_or(CarrierRefusal::OpenOrClosed)
     }
 
     /// What is left of the pool.

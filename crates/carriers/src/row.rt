@@ -9,7 +9,7 @@ use crate::message::Message;
 const PLACES: u8 = 15;
 
 /// The payload byte of a message that has none.
-// A byte that means two things is what the project's format has for a message, so it is no Option here.
+// A byte and no Option: the station stores a message in two bytes, with 255 for no payload.
 const NONE: u8 = 255;
 
 /// A row of 30 bytes for at most 15 messages. They begin at any of its 15 places; behind the last place they go on at the
