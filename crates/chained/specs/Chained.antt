@@ -11,7 +11,7 @@ use Rattle.carriers.specs.declared.message.Message.{Message}
 use Rattle.carriers.specs.Boxes.{Box}
 use Rattle.carriers.specs.Tables.{boxes_from}
 use Rattle.chained.specs.declared.links.Links.{Links}
-use Rattle.chained.specs.Chains.{at, cell}
+use Rattle.chained.specs.Chains.{count_of, cell}
 
 abbrev pub blank : Message
 blank = record { number = 0; payload = None }
@@ -27,7 +27,7 @@ abbrev pub AllRanged : List Message → Type 0
 AllRanged ms = (i : ℕ) → ranged_test (slice_index_or ms i blank) ≡ true
 
 abbrev pub waiting : List Message → Links → ℕ → List Message
-waiting ms c b = map (λ k. get_or ms (cell c.next c.heads b k) blank) (range_with_len 0 (at c.counts b))
+waiting ms c b = map (λ k. get_or ms (cell c.cells b k) blank) (range_with_len 0 (count_of c.cells b))
 
 abbrev pub chained : Limits → Links → List Message → List Box
 chained l c ms = boxes_from l.limits (waiting ms c)

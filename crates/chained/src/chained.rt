@@ -2,6 +2,7 @@
 ghost use Rattle.std.specs.Prelude.{◌≡◌, ◌+◌, length, replicate, None};
 ghost use Rattle.carriers.specs.Boxes.{closed};
 ghost use Rattle.carriers.specs.Limits.{allotted, Few};
+ghost use Rattle.chained.specs.Chains.{counts};
 ghost use Rattle.chained.specs.Chained.{chained, AllRanged};
 ghost use Rattle.chained.specs.Cells.{chained-kept};
 ghost use Rattle.std.proofs.Common.{rules};
@@ -26,7 +27,7 @@ pub struct Chained {
     ghost size: { length messages ≡ 128 },
     ghost ranged: { AllRanged messages },
     ghost pool: { limits.spare + allotted limits.limits ≡ 128 },
-    ghost few: { Few limits.limits links.counts },
+    ghost few: { Few limits.limits (counts links.cells) },
 }
 
 impl Chained {

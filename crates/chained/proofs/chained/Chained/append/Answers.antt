@@ -2,9 +2,9 @@ use Rattle.std.proofs.Common.{◌<◌, set, refl, arith}
 use Rattle.std.proofs.lemmas.Result.{err_from_is_err_and}
 use Rattle.carriers.proofs.Drawing.{few_counted}
 use Rattle.carriers.specs.Tabled.{put_refused, put_full, put_done}
-use Rattle.chained.specs.Chains.{at}
+use Rattle.chained.specs.Chains.{counts, count_of}
 use Rattle.chained.specs.Chained.{waiting}
-use Rattle.chained.specs.Cells.{few-waiting, length-waiting, free_cell, ranged-set, cell-low, put_count, put_count_other, put_here, put_others}
+use Rattle.chained.specs.Cells.{few-waiting, length-waiting, free_cell, ranged-set, cell-low, put_here, put_others}
 use Rattle.chained.proofs.chained.Chained.append.Goals as goal
 
 pub returns-in_err-limit : goal.returns-in_err-limit
@@ -55,10 +55,9 @@ invariant_of-self-clause-few c =
     let r = c.shift-x.new.self in
     let found = c.in_ok-limit.ensures.answer in
     let some = free_cell s.limits s.links s.messages s.few s.pool c.args.b c.in_ok-limit.limit found.0 found.1 (omega (arith, c.if-count-limit.false, c.count.ensures.answer)) in
-    let more = put_count s.messages s.links r c.args.b c.shift-x.result c.args.message found.0 s.size some c.shift-x.ensures.first c.shift-x.ensures.moved in
-    few_counted s.limits.limits c.args.b c.in_ok-limit.limit s.links.counts r.counts found.1
-    (omega (arith, more, c.if-count-limit.false, c.count.ensures.answer))
-    (put_count_other s.messages s.links r c.args.b c.shift-x.result c.args.message found.0 s.size some c.shift-x.ensures.first c.shift-x.ensures.moved) s.few
+    few_counted s.limits.limits c.args.b c.in_ok-limit.limit (counts s.links.cells) (counts r.cells) found.1
+    (omega (arith, c.shift-x.ensures.moved.more, c.if-count-limit.false, c.count.ensures.answer))
+    (λ a la q. c.shift-x.ensures.moved.kept a (λ e. omega arith) q) s.few
 
 pub returns : goal.returns
 returns c =
@@ -66,7 +65,7 @@ returns c =
     let r = c.shift-x.new.self in
     let found = c.in_ok-limit.ensures.answer in
     let ranged = c.if-not-is_ranged.ensures.answer.0 refl in
-    let room : at s.links.counts c.args.b < c.in_ok-limit.limit = omega (arith, c.if-count-limit.false, c.count.ensures.answer) in
+    let room : count_of s.links.cells c.args.b < c.in_ok-limit.limit = omega (arith, c.if-count-limit.false, c.count.ensures.answer) in
     let some = free_cell s.limits s.links s.messages s.few s.pool c.args.b c.in_ok-limit.limit found.0 found.1 room in
     record {
       done =

@@ -3,6 +3,7 @@ use Rattle.std.proofs.lemmas.Result.{err_from_is_err_and}
 use Rattle.carriers.proofs.Drawing.{few_returned}
 use Rattle.carriers.specs.Tables.{boxes_from}
 use Rattle.carriers.specs.Tabled.{close_refused, close_done}
+use Rattle.chained.specs.Chains.{counts}
 use Rattle.chained.specs.Chained.{waiting}
 use Rattle.chained.specs.Cells.{few-waiting, clear_others}
 use Rattle.chained.proofs.chained.Chained.close_box.Goals as goal
@@ -26,7 +27,7 @@ invariant_of-self-2-clause-few c =
     let s = c.args.self.now in
     let l = c.give_back.new.self in
     let cleared = c.clear.ensures.cleared in
-    few_returned s.limits.limits l.limits s.limits.spare l.spare c.args.b s.links.counts c.clear.new.self.counts
+    few_returned s.limits.limits l.limits s.limits.spare l.spare c.args.b (counts s.links.cells) (counts c.clear.new.self.cells)
     c.in_ok-give_back.ensures.done cleared.none (λ a h n. (cleared.same a h n).0) s.few
 
 pub returns : goal.returns

@@ -1,7 +1,7 @@
 use Rattle.std.proofs.Common.{◌<◌, get_or, refl, arith}
 use Rattle.std.proofs.lemmas.Result.{err_from_is_err_and}
 use Rattle.carriers.specs.Tabled.{take-refused, take_empty, take_done}
-use Rattle.chained.specs.Chains.{at}
+use Rattle.chained.specs.Chains.{count_of}
 use Rattle.chained.specs.Chained.{blank, waiting}
 use Rattle.chained.specs.Cells.{few-waiting, length-waiting, take_here, take_others}
 use Rattle.chained.proofs.chained.Chained.take_first.Goals as goal
@@ -35,7 +35,7 @@ returns c =
     let s = c.args.self.now in
     let r = c.shift-x.new.self in
     let found = c.in_ok-of_open.ensures.answer in
-    let some : 0 < at s.links.counts c.args.b = omega (arith, c.if-count-eq0.false, c.count.ensures.answer) in
+    let some : 0 < count_of s.links.cells c.args.b = omega (arith, c.if-count-eq0.false, c.count.ensures.answer) in
     record {
       done =
           take_done s.limits.limits (waiting s.messages s.links) s.limits.sizes (few-waiting s.limits s.links s.messages s.few) c.args.b _ found.0 found.1
