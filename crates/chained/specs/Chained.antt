@@ -7,7 +7,7 @@ use Rattle.std.specs.Prelude.{◌≡◌, ℕ, Bool, true, ◌&&◌, List, map, g
 use Rattle.std.specs.List.{range_with_len}
 use Rattle.carriers.specs.declared.message.Message.{Message}
 use Rattle.chained.specs.declared.links.Links.{Links}
-use Rattle.chained.specs.Chains.{at, cell}
+use Rattle.chained.specs.Chains.{count_of, cell}
 
 abbrev pub blank : Message
 blank = record { number = 0; payload = None }
@@ -23,4 +23,4 @@ abbrev pub AllRanged : List Message → Type 0
 AllRanged ms = (i : ℕ) → ranged_test (slice_index_or ms i blank) ≡ true
 
 abbrev pub waiting : List Message → Links → ℕ → List Message
-waiting ms c b = map (λ k. get_or ms (cell c.next c.heads b k) blank) (range_with_len 0 (at c.counts b))
+waiting ms c b = map (λ k. get_or ms (cell c.tables b k) blank) (range_with_len 0 (count_of c.tables b))
