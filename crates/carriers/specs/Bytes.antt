@@ -2,7 +2,7 @@
 use Rattle.std.specs.Prelude.{◌≡◌, ℕ, ◌+◌, ◌-◌, ◌*◌, ◌<◌, ◌≤◌, true, cond, ◌≢◌, ◌⊎◌, List, length, Some, None, Option, ◌==◌, nat_lt, slice_index, slice_index_or, slice_set, refl}
 use Rattle.std.proofs.Common.{sym, ap, ◌∙◌, subst, inl, inr, ⊎_elim, arith}
 use Rattle.std.proofs.lemmas.List.{get_or-set_same, get_or-set_other, length-set}
-use Rattle.std.proofs.lemmas.Bool.{lt-ltb, le-ltb, ltb-true, eqb-true, eqb-false, ne_eqb, or_cases, cond-true, cond-false, cases_Bool, cases_lt, cases_order}
+use Rattle.std.proofs.lemmas.Bool.{lt-ltb, le-ltb, ltb-true, eqb-true, eqb-false, ne_eqb, or_cases, cond-true, cond-false, cases_Bool, cases_lt}
 use Rattle.carriers.specs.Boxes.{Slot, Ranged}
 use Rattle.carriers.specs.Rows.{byte_of, payload_of, slot_byte, place_of, message_at, Legible}
 
@@ -55,53 +55,38 @@ place-next f k hf hk =
           ])
     ]
 
--- places of different rows are apart
-spots_apart : (a r b p : ℕ) → r < 15 → p < 15 → (a ≡ b → r ≢ p) → 15 * a + r ≢ 15 * b + p
-spots_apart a r b p hr hp ne e =
-    elim (cases_order a b) [
-      | inl same ↦ ne same (omega arith)
-      | inr other ↦ (elim other [ inl less ↦ omega arith | inr more ↦ omega arith ])
-    ]
-
 -- legible bytes are messages in their ranges
-pub legible_message : (bytes : List ℕ) (b i : ℕ) → Legible bytes → Ranged (message_at bytes b i)
-legible_message bytes b i ok =
-    let pair = ok (15 * b + i) in
-    let e₀ : 2 * (15 * b + i) ≡ 30 * b + 2 * i = omega arith in
-    let e₁ : 2 * (15 * b + i) + 1 ≡ 30 * b + 2 * i + 1 = omega arith in (
-      subst (λ j. slice_index bytes j < 16) e₀ pair.0,
-      slot_of_byte (slice_index bytes (30 * b + 2 * i + 1)) (ap (λ j. slot_byte (slice_index bytes j)) (sym e₁) ∙ pair.1),
-    )
+pub legible_message : (bytes : List ℕ) (i : ℕ) → Legible bytes → Ranged (message_at bytes i)
+legible_message bytes i ok = ((ok i).0, slot_of_byte (slice_index bytes (2 * i + 1)) (ok i).1)
 
--- two bytes written at place p of the row of box b
-module _ (bytes : List ℕ) (b p x s : ℕ) (long : length bytes ≡ 1920) (numbered : b < 64) (inside : p < 15) where
+-- two bytes written at place p
+module _ (bytes : List ℕ) (p x s : ℕ) (long : length bytes ≡ 30) (inside : p < 15) where
   abbrev written : List ℕ
-  written = slice_set (slice_set bytes (30 * b + 2 * p) x) (30 * b + 2 * p + 1) s
+  written = slice_set (slice_set bytes (2 * p) x) (2 * p + 1) s
 
-  number_here : slice_index_or written (30 * b + 2 * p) 0 ≡ x
+  number_here : slice_index_or written (2 * p) 0 ≡ x
   number_here =
-      let ne : 30 * b + 2 * p ≢ 30 * b + 2 * p + 1 = λ e. omega arith in
-      let h : 30 * b + 2 * p < length bytes = omega arith in
-      get_or-set_other (slice_set bytes (30 * b + 2 * p) x) (30 * b + 2 * p + 1) (30 * b + 2 * p) s 0 ne ∙ get_or-set_same bytes (30 * b + 2 * p) x 0 h
+      let ne : 2 * p ≢ 2 * p + 1 = λ e. omega arith in
+      let h : 2 * p < length bytes = omega arith in
+      get_or-set_other (slice_set bytes (2 * p) x) (2 * p + 1) (2 * p) s 0 ne ∙ get_or-set_same bytes (2 * p) x 0 h
 
-  slot_here : slice_index_or written (30 * b + 2 * p + 1) 0 ≡ s
+  slot_here : slice_index_or written (2 * p + 1) 0 ≡ s
   slot_here =
-      let h : 30 * b + 2 * p + 1 < length (slice_set bytes (30 * b + 2 * p) x) = omega (arith, length-set bytes (30 * b + 2 * p) x) in
-      get_or-set_same (slice_set bytes (30 * b + 2 * p) x) (30 * b + 2 * p + 1) s 0 h
+      let h : 2 * p + 1 < length (slice_set bytes (2 * p) x) = omega (arith, length-set bytes (2 * p) x) in
+      get_or-set_same (slice_set bytes (2 * p) x) (2 * p + 1) s 0 h
 
-  elsewhere : (j : ℕ) → j ≢ 30 * b + 2 * p → j ≢ 30 * b + 2 * p + 1 → slice_index written j ≡ slice_index bytes j
+  elsewhere : (j : ℕ) → j ≢ 2 * p → j ≢ 2 * p + 1 → slice_index written j ≡ slice_index bytes j
   elsewhere j n₀ n₁ =
-      get_or-set_other (slice_set bytes (30 * b + 2 * p) x) (30 * b + 2 * p + 1) j s 0 n₁ ∙ get_or-set_other bytes (30 * b + 2 * p) j x 0 n₀
+      get_or-set_other (slice_set bytes (2 * p) x) (2 * p + 1) j s 0 n₁ ∙ get_or-set_other bytes (2 * p) j x 0 n₀
 
-  pub message_here : message_at written b p ≡ record { number = x; payload = payload_of s }
+  pub message_here : message_at written p ≡ record { number = x; payload = payload_of s }
   message_here =
-      ap (λ n. record { number = n; payload = payload_of (slice_index written (30 * b + 2 * p + 1)) }) number_here
+      ap (λ n. record { number = n; payload = payload_of (slice_index written (2 * p + 1)) }) number_here
       ∙ ap (λ n. record { number = x; payload = payload_of n }) slot_here
 
-  pub message-elsewhere : (a r : ℕ) → r < 15 → (a ≡ b → r ≢ p) → message_at written a r ≡ message_at bytes a r
-  message-elsewhere a r hr ne =
-      let off = spots_apart a r b p hr inside ne in
-      ap (λ n. record { number = n; payload = payload_of (slice_index written (30 * a + 2 * r + 1)) })
-      (elsewhere (30 * a + 2 * r) (λ e. off (omega arith)) (λ e. omega arith))
-      ∙ ap (λ n. record { number = slice_index bytes (30 * a + 2 * r); payload = payload_of n })
-      (elsewhere (30 * a + 2 * r + 1) (λ e. omega arith) (λ e. off (omega arith)))
+  pub message-elsewhere : (r : ℕ) → r ≢ p → message_at written r ≡ message_at bytes r
+  message-elsewhere r ne =
+      ap (λ n. record { number = n; payload = payload_of (slice_index written (2 * r + 1)) })
+      (elsewhere (2 * r) (λ e. ne (omega arith)) (λ e. omega arith))
+      ∙ ap (λ n. record { number = slice_index bytes (2 * r); payload = payload_of n })
+      (elsewhere (2 * r + 1) (λ e. omega arith) (λ e. ne (omega arith)))

@@ -3,8 +3,8 @@ pub mod Calls
 pub mod Limits
 pub mod Tables
 pub mod Rows
-pub mod Copied
-pub mod Copies
+pub mod Stores
+pub mod Waiting
 pub mod Queues
 pub mod Counting
 pub mod Bytes

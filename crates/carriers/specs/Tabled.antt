@@ -1,9 +1,9 @@
 -- Boxes told by limits and messages: what holds of them, and what the calls of a carrier do to them.
-use Rattle.std.specs.Prelude.{◌≡◌, ℕ, ◌+◌, ◌<◌, ◌≤◌, true, false, ◌≢◌, List, [], ◌∷◌, ◌++◌, map, length, get_or, drop, replicate, Some, None, Ok, Err, sum_by, Option, Result, MatchResult, slice_index_or, slice_set, refl}
+use Rattle.std.specs.Prelude.{◌≡◌, ℕ, suc, ◌+◌, ◌-◌, sum, ◌<◌, ◌≤◌, true, false, ◌≢◌, List, [], ◌∷◌, ◌++◌, map, length, get_or, drop, replicate, Some, None, Ok, Err, sum_by, Option, Result, MatchResult, slice_index_or, slice_set, refl}
 use Rattle.std.proofs.Common.{sym, ap, ◌∙◌, subst, inl, inr, arith, zero-add}
-use Rattle.std.specs.List.{AllByRecursion}
+use Rattle.std.specs.List.{AllByRecursion, range_with_len}
 use Rattle.std.proofs.lemmas.List.{same_lists, get_or-set_same, get_or-set_other, length-set, length-map, get_or-map, get_or_past, get_or_default}
-use Rattle.std.proofs.lemmas.List.Sums.{sum-map}
+use Rattle.std.proofs.lemmas.List.Sums.{sum-map, sum_by-cons, sum_by-set}
 use Rattle.std.proofs.lemmas.List.FromFn.{length-map-range_with_len, get_or-map-range_with_len}
 use Rattle.std.proofs.lemmas.Bool.{cases_eq, cases_lt}
 use Rattle.carriers.specs.declared.message.Message.{Message}
@@ -12,11 +12,19 @@ use Rattle.carriers.specs.declared.refusal.CarrierRefusal.TheVariants.{OutOfRang
 use Rattle.carriers.specs.Boxes.{Box, closed, holding, is_open, limit_of, queue_of, box_at, all_limits, Ranged, Fits, Kept}
 use Rattle.carriers.specs.Calls.{Opens, Opened, Put, Taken, Closed, OpenRefused, PutRefused, TakeRefused, CloseRefused}
 use Rattle.carriers.specs.Limits.{limit_in, allotted, Low, Drawn, Returned, DrawRefused, ClosedRefused}
+use Rattle.carriers.specs.Stores.{all_waiting, Within, Others}
 use Rattle.carriers.specs.Tables.{box_from, boxes_from}
 
 none_left : {X : Type 0} (xs : List X) → length xs ≤ 0 → xs ≡ []
 none_left [] h = refl
 none_left (x ∷ xs) h = absurd (omega arith)
+
+-- sums of lists, one below the other
+sum_le : (xs ys : List ℕ) → length xs ≤ length ys → ((k : ℕ) → k < length xs → get_or xs k 0 ≤ get_or ys k 0) → sum xs ≤ sum ys
+sum_le [] ys l h = omega arith
+sum_le (x ∷ xs) [] l h = absurd (omega arith)
+sum_le (x ∷ xs) (y ∷ ys) l h =
+    omega (arith, sum_by-cons (λ z. z) x xs, sum_by-cons (λ z. z) y ys, sum_le xs ys (omega arith) (λ k lk. h (suc k) (omega arith)), h 0 (omega arith))
 
 -- a box from its limit
 limit_from : (o : Option ℕ) (ms : List Message) → limit_of (box_from o ms) ≡ limit_in o
@@ -63,7 +71,7 @@ boxes_set ls ls' q q' b x numbered here others =
     ])
     ∙ get_or_default (slice_set (boxes_from ls q) b x) k closed d inside')
 
-module _ (ls : List (Option ℕ)) (q : ℕ → List Message) (long : length ls ≡ 64) (few : (b : ℕ) → b < 64 → length (q b) ≤ limit_in (slice_index_or ls b None)) where
+module _ (ls : List (Option ℕ)) (q : ℕ → List Message) (long : length ls ≡ 64) (few : Within ls q) where
   pub limit_at : (b : ℕ) → b < 64 → limit_of (box_at (boxes_from ls q) b) ≡ limit_in (slice_index_or ls b None)
   limit_at b h = ap limit_of (box_at_lem ls q b h) ∙ limit_from (slice_index_or ls b None) (q b)
 
@@ -92,8 +100,8 @@ module _ (ls : List (Option ℕ)) (q : ℕ → List Message) (long : length ls �
       get_or-map limit_of (boxes_from ls q) k closed d inside ∙ limit_at k low ∙ sym (get_or-map limit_in ls k None d inside')))
       ∙ sum-map limit_in ls
 
-  pub boxes_kept : (pool : ℕ) → Low ls → ((b : ℕ) → AllByRecursion Ranged (q b)) → allotted ls ≤ pool → Kept pool (boxes_from ls q)
-  boxes_kept pool low ok within =
+  pub limited-kept : (pool s : ℕ) → Low ls → ((b : ℕ) → AllByRecursion Ranged (q b)) → s + allotted ls ≡ pool → Kept pool (boxes_from ls q)
+  limited-kept pool s low ok whole =
       record {
         count = length_boxes ls q;
         each = λ b. elim (cases_lt b 64) [
@@ -103,9 +111,29 @@ module _ (ls : List (Option ℕ)) (q : ℕ → List Message) (long : length ls �
         together = omega (arith, limits_together);
       }
 
+  -- where an open box has room, not all limits are used up
+  pub waiting_below : (b l : ℕ) → b < 64 → slice_index_or ls b None ≡ Some l → length (q b) < l → all_waiting q < allotted ls
+  unfolding all_waiting
+  waiting_below b l numbered o room =
+      let counts : List ℕ = map (λ a. length (q a)) (range_with_len 0 64) in
+      let tops : List ℕ = map limit_in ls in
+      let lc : length counts ≡ 64 = length-map-range_with_len (λ a. length (q a)) 0 64 in
+      let lt : length tops ≡ 64 = length-map ls limit_in ∙ long in
+      let inside : b < length tops = omega arith in
+      let top : (k : ℕ) → k < 64 → get_or tops k 0 ≡ limit_in (slice_index_or ls k None) = λ k h. (let i : k < length ls = omega arith in get_or-map limit_in ls k None 0 i) in
+      let less : sum counts ≤ sum (slice_set tops b (l - 1)) =
+      sum_le counts (slice_set tops b (l - 1)) (omega (arith, length-set tops b (l - 1)))
+      (λ k lk. let low : k < 64 = omega arith in
+      let here : get_or counts k 0 ≡ length (q k) = get_or-map-range_with_len (λ a. length (q a)) 0 64 k k 0 low (zero-add k) in
+      elim (cases_eq k b) [
+        | inl e ↦ omega (arith, here, ap (λ i. length (q i)) e, ap (λ i. get_or (slice_set tops b (l - 1)) i 0) e, get_or-set_same tops b (l - 1) 0 inside)
+        | inr n ↦ omega (arith, here, get_or-set_other tops b k (l - 1) 0 n, few k low, top k low)
+      ]) in
+      omega (arith, less, sum_by-set (λ z. z) tops b (l - 1) 0 inside, top b numbered, ap limit_in o, sum-map limit_in ls)
+
   -- what the calls of a carrier do, where the spare s and the limits make up the pool
   module _ (pool s : ℕ) (whole : s + allotted ls ≡ pool) (b : ℕ) where
-    open_done : (l : ℕ) (ls' : List (Option ℕ)) (s' : ℕ) (q' : ℕ → List Message) → Drawn ls s b l ls' s' → q' b ≡ [] → ((a : ℕ) → a < 64 → a ≢ b → q' a ≡ q a) → Opened pool (boxes_from ls q) b l (boxes_from ls' q')
+    open_done : (l : ℕ) (ls' : List (Option ℕ)) (s' : ℕ) (q' : ℕ → List Message) → Drawn ls s b l ls' s' → q' b ≡ [] → Others q b q' → Opened pool (boxes_from ls q) b l (boxes_from ls' q')
     open_done l ls' s' q' d here others =
         let inside : b < length ls = omega (arith, d.numbered) in
         record {
@@ -130,7 +158,7 @@ module _ (ls : List (Option ℕ)) (q : ℕ → List Message) (long : length ls �
     open_answered (Err e) l ls' s' w = (open_refused l e w.0, ap (λ zs. boxes_from zs q) w.1)
 
   module _ (b : ℕ) where
-    pub close_done : (s : ℕ) (ls' : List (Option ℕ)) (s' : ℕ) (q' : ℕ → List Message) → Returned ls s b ls' s' → ((a : ℕ) → a < 64 → a ≢ b → q' a ≡ q a) → Closed (boxes_from ls q) b (boxes_from ls' q')
+    pub close_done : (s : ℕ) (ls' : List (Option ℕ)) (s' : ℕ) (q' : ℕ → List Message) → Returned ls s b ls' s' → Others q b q' → Closed (boxes_from ls q) b (boxes_from ls' q')
     close_done s ls' s' q' d others =
         let inside : b < length ls = omega (arith, d.numbered) in
         record {
@@ -165,13 +193,13 @@ module _ (ls : List (Option ℕ)) (q : ℕ → List Message) (long : length ls �
       limit_is = limit_at b numbered ∙ ap limit_in was_open
 
       -- the messages of one open box changed
-      boxes_queue : (q' : ℕ → List Message) (ms : List Message) → q' b ≡ ms → ((a : ℕ) → a < 64 → a ≢ b → q' a ≡ q a) → boxes_from ls q' ≡ slice_set (boxes_from ls q) b (holding (limit_of (box_at (boxes_from ls q) b)) ms)
+      boxes_queue : (q' : ℕ → List Message) (ms : List Message) → q' b ≡ ms → Others q b q' → boxes_from ls q' ≡ slice_set (boxes_from ls q) b (holding (limit_of (box_at (boxes_from ls q) b)) ms)
       boxes_queue q' ms here others =
           boxes_set ls ls q q' b _ numbered
           (ap (λ o. box_from o (q' b)) was_open ∙ ap (λ k. holding k (q' b)) (sym limit_is) ∙ ap (holding (limit_of (box_at (boxes_from ls q) b))) here)
           (λ a h n. ap (box_from (slice_index_or ls a None)) (others a h n))
 
-      pub put_done : (m : Message) (q' : ℕ → List Message) → Ranged m → length (q b) < l → q' b ≡ q b ++ m ∷ [] → ((a : ℕ) → a < 64 → a ≢ b → q' a ≡ q a) → Put (boxes_from ls q) b m (boxes_from ls q')
+      pub put_done : (m : Message) (q' : ℕ → List Message) → Ranged m → length (q b) < l → q' b ≡ q b ++ m ∷ [] → Others q b q' → Put (boxes_from ls q) b m (boxes_from ls q')
       put_done m q' ok room here others =
           record {
             numbered = numbered;
@@ -185,7 +213,7 @@ module _ (ls : List (Option ℕ)) (q : ℕ → List Message) (long : length ls �
       put_full m ok full =
           (numbered, ok, open_at b l numbered was_open, omega (arith, ap length (queue_at b numbered), limit_is, few b numbered, ap limit_in was_open))
 
-      pub take_done : (m : Message) (q' : ℕ → List Message) → q b ≡ m ∷ q' b → ((a : ℕ) → a < 64 → a ≢ b → q' a ≡ q a) → Taken (boxes_from ls q) b m (boxes_from ls q')
+      pub take_done : (m : Message) (q' : ℕ → List Message) → q b ≡ m ∷ q' b → Others q b q' → Taken (boxes_from ls q) b m (boxes_from ls q')
       take_done m q' here others =
           let rest : drop 1 (queue_of (box_at (boxes_from ls q) b)) ≡ q' b = ap (drop 1) (queue_at b numbered ∙ here) in
           record {

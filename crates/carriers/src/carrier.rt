@@ -14,20 +14,16 @@ pub trait Carrier {
     /// How much the limits of all open boxes may come to: 32 to 960.
     const POOL: u16;
 
-    // POOL as the clauses know it.
-    ghost pool: { ℕ };
+    // POOL in clauses and laws.
+    ghost POOL: { ℕ };
 
     // What the carrier holds: its 64 boxes.
     ghost boxes: { Self → List Box };
 
-    /// POOL, as the clauses know it.
-    fn pool_size() -> u16
-        ensures answer { result ≡ pool };
-
     /// Opens a closed box with a limit and no message. Refused by 30 for a box above 63 or a limit above 15, by 31 where
     /// the box is open, by 33 where the limit exceeds what is spare.
     fn open(&mut self, b: u8, limit: u8) -> Result<(), CarrierRefusal>
-        ensures done { Opens pool (boxes self.old) b limit result (boxes self.new) };
+        ensures done { Opens POOL (boxes self.old) b limit result (boxes self.new) };
 
     /// Appends a message to the list of a box. Refused by 30 for a box above 63, a message number above 15 or a payload
     /// above 63, by 31 where the box is closed, by 32 where it is full.
@@ -49,13 +45,13 @@ pub trait Carrier {
 
     /// POOL less the limits of all open boxes.
     fn spare(&self) -> u16
-        ensures answer { result ≡ pool - all_limits (boxes self.now) };
+        ensures answer { result ≡ POOL - all_limits (boxes self.now) };
 
     /// Closes an open box, whose limit and messages are gone. Refused by 30 for a box above 63, by 31 where it is closed.
     fn close(&mut self, b: u8) -> Result<(), CarrierRefusal>
         ensures done { Closes (boxes self.old) b result (boxes self.new) };
 
-    ghost bounds: { (32 ≤ pool) × (pool ≤ 960) };
+    ghost bounds: { (32 ≤ POOL) × (POOL ≤ 960) };
 
-    ghost kept: { (c : Self) → Kept pool (boxes c) };
+    ghost kept: { (c : Self) → Kept POOL (boxes c) };
 }

@@ -3,6 +3,7 @@ ghost use Rattle.std.specs.Prelude.{◌≡◌, ◌+◌, ◌^◌, ◌<◌, length
 ghost use Rattle.carriers.specs.Calls.{AskRefused};
 ghost use Rattle.carriers.specs.Limits.{limit_in, allotted, Low, ClosedRefused};
 
+use crate::box_number::BoxNumber;
 use crate::refusal::CarrierRefusal;
 
 mod draw;
@@ -37,13 +38,8 @@ impl Limits {
     pub fn at(&self, b: u8) -> Result<u8, CarrierRefusal>
         ensures answer { MatchResult result (λ n. (b < 64) × (n ≡ limit_in (slice_index_or self.now.limits b None))) (AskRefused b) }
     {
-        if b > 63 {
-            return Err(CarrierRefusal::OutOfRange);
-        }
-        match self.limits[b as usize] {
-            Some(limit) => Ok(limit),
-            None => Ok(0),
-        }
+        let b = BoxNumber::try_from(b)?;
+        Ok(self.limits[b.index()].unwrap_or(0))
     }
 
     /// The limit of an open box. Refused by 30 for a box above 63, by 31 for a closed one.
@@ -52,13 +48,8 @@ impl Limits {
             (λ n. (b < 64) × (slice_index_or self.now.limits b None ≡ Some n))
             (ClosedRefused b (slice_index_or self.now.limits b None)) }
     {
-        if b > 63 {
-            return Err(CarrierRefusal::OutOfRange);
-        }
-        match self.limits[b as usize] {
-            Some(limit) => Ok(limit),
-            None => Err(CarrierRefusal::OpenOrClosed),
-        }
+        let b = BoxNumber::try_from(b)?;
+        self.limits[b.index()].ok_or(CarrierRefusal::OpenOrClosed)
     }
 
     /// What is left of the pool.

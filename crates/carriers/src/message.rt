@@ -3,7 +3,7 @@ ghost use Rattle.std.specs.Prelude.{Decides};
 ghost use Rattle.carriers.specs.Boxes.{Ranged};
 
 /// A message: its number, 0 to 15, and the slot of its payload, 0 to 63, if it has one.
-#[derive(Clone, Copy, PartialEq, Eq)]
+#[derive(Clone, Copy, Debug, PartialEq, Eq)]
 pub struct Message {
     pub number: u8,
     pub payload: Option<u8>,

@@ -2,8 +2,11 @@
 ghost use Rattle.std.specs.Prelude.{◌≡◌};
 ghost use Rattle.carriers.specs.Calls.{refusal_number};
 
+use std::error::Error;
+use std::fmt;
+
 /// A call that a carrier refuses. It leaves the carrier as it was.
-#[derive(Clone, Copy, PartialEq, Eq)]
+#[derive(Clone, Copy, Debug, PartialEq, Eq)]
 pub enum CarrierRefusal {
     /// 30: a box, limit, message or payload number is outside its range.
     OutOfRange,
@@ -15,12 +18,12 @@ pub enum CarrierRefusal {
     NoSpare,
 }
 
-impl CarrierRefusal {
+impl From<CarrierRefusal> for u8 {
+    ghost from_gives = { λ e n. n ≡ refusal_number e };
+
     /// The number of a refusal, 30 to 33.
-    pub fn number(self) -> u8
-        ensures answer { result ≡ refusal_number self }
-    {
-        match self {
+    fn from(refusal: CarrierRefusal) -> u8 {
+        match refusal {
             CarrierRefusal::OutOfRange => 30,
             CarrierRefusal::OpenOrClosed => 31,
             CarrierRefusal::FullOrEmpty => 32,
@@ -28,3 +31,11 @@ impl CarrierRefusal {
         }
     }
 }
+
+impl fmt::Display for CarrierRefusal {
+    fn fmt<W: fmt::Write>(&self, f: &mut fmt::Formatter<W>) -> fmt::Result {
+        write!(f, "refused {}", u8::from(*self))
+    }
+}
+
+impl Error for CarrierRefusal {}

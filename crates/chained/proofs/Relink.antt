@@ -1,186 +1,211 @@
--- Chains after the first n cells of chain f were linked behind chain t: y is the last of them, h the head of chain t then,
--- and s the cell whose link changes.
-use Rattle.std.proofs.Common.{◌≡◌, ℕ, zero, suc, ◌+◌, ◌-◌, ◌<◌, ◌≤◌, ◌≢◌, ◌⊎◌, List, length, set, sum, sym, refl, ap, ◌∙◌, inl, inr, arith}
-use Rattle.std.proofs.lemmas.List.{get_or-set_same, get_or-set_other, length-set}
-use Rattle.std.proofs.lemmas.List.Sums.{sum_by-set, get_or-le-sum_by}
+-- Chains after the first n cells of chain f were linked behind chain t: w is chain f before, and y the last of the n cells.
+use Rattle.std.proofs.Common.{◌≡◌, ℕ, zero, suc, ◌+◌, ◌-◌, ◌<◌, ◌≤◌, ◌≢◌, ◌⊎◌, List, Option, Some, None, length, get_or, set, sum, sym, refl, ap, ◌∙◌, inl, inr, arith}
+use Rattle.std.proofs.Math.ListN.{get_or-map}
+use Rattle.std.proofs.lemmas.List.{get_or-set_other, length-set}
+use Rattle.std.proofs.lemmas.List.Sums.{sum_by-set, get_or-le-sum_by, sum-map}
+use Rattle.std.proofs.lemmas.Grind.{common_steps}
 use Rattle.std.proofs.lemmas.Bool.{cases_eq, cases_lt}
+use Rattle.chained.specs.declared.links.Chain.{Chain}
+use Rattle.chained.specs.declared.links.Tables.{Tables}
 use Rattle.chained.specs.declared.links.Links.{Links}
-use Rattle.chained.specs.Chains.{at, cell, Below, Apart, Ends, Moved}
+use Rattle.chained.specs.Chains.{count_in, head_in, tail_in, counts, count_of, cell, Below, Apart, Ends, Linked, Moved}
 
--- A place that was moved, and one that was not.
-abbrev Gone : ℕ → ℕ → ℕ → ℕ → ℕ → ℕ → ℕ → ℕ → Type 0
-Gone f t n size a k a₀ k₀ = (a₀ ≡ f) × (a ≡ t) × (k ≡ size + k₀) × (k₀ < n)
-
-abbrev Stayed : ℕ → ℕ → ℕ → ℕ → ℕ → ℕ → ℕ → ℕ → Type 0
-Stayed f t n size a k a₀ k₀ = (a₀ ≡ a) × (a ≡ f → k₀ ≡ k + n) × (a ≢ f → k₀ ≡ k) × (a ≡ t → k < size)
-
--- Where the cell y at the place k of chain a was before.
-record Old (N : ℕ → ℕ → ℕ) (counts : List ℕ) (f t n y a k : ℕ) : Type 0 where
+-- Where the cell y was, which is at the place k of chain a: of the places that were before, only that one is here now.
+record Old (c : Tables) (f t n y a k : ℕ) : Type 0 where
   a₀ : ℕ
   k₀ : ℕ
   a_low : a₀ < 65
-  k_low : k₀ < at counts a₀
-  is : y ≡ N a₀ k₀
-  how : Gone f t n (at counts t) a k a₀ k₀ ⊎ Stayed f t n (at counts t) a k a₀ k₀
+  k_low : k₀ < count_of c a₀
+  is : y ≡ cell c a₀ k₀
+  gone : a₀ ≡ f → k₀ < n → (a ≡ t) × (k ≡ count_of c t + k₀)
+  left : a₀ ≡ f → n ≤ k₀ → (a ≡ f) × (k + n ≡ k₀)
+  kept : a₀ ≢ f → (a ≡ a₀) × (k ≡ k₀)
 
--- Places that were the same are the same.
-same_place :
-    (f t n size a k a₀ k₀ c j c₀ j₀ : ℕ) → Gone f t n size a k a₀ k₀ ⊎ Stayed f t n size a k a₀ k₀ → Gone f t n size c j c₀ j₀ ⊎ Stayed f t n size c j c₀ j₀ →
-    a₀ ≡ c₀ → k₀ ≡ j₀ → (a ≡ c) × (k ≡ j)
-same_place f t n size a k a₀ k₀ c j c₀ j₀ (inl u) (inl v) p q = (u.1 ∙ sym v.1, omega (arith, u.2, v.2))
-same_place f t n size a k a₀ k₀ c j c₀ j₀ (inl u) (inr v) p q =
-    let e : c ≡ f = sym v.0 ∙ sym p ∙ u.0 in absurd (omega (arith, v.1 e, u.3))
-same_place f t n size a k a₀ k₀ c j c₀ j₀ (inr u) (inl v) p q =
-    let e : a ≡ f = sym u.0 ∙ p ∙ v.0 in absurd (omega (arith, u.1 e, v.3))
-same_place f t n size a k a₀ k₀ c j c₀ j₀ (inr u) (inr v) p q =
-    let e : a ≡ c = sym u.0 ∙ p ∙ v.0 in
-    elim (cases_eq a f) [
-      | inl af ↦ (e, omega (arith, u.1 af, v.1 (sym e ∙ af)))
-      | inr nf ↦ (e, sym (u.2 nf) ∙ q ∙ v.2 (λ z. nf (e ∙ z)))
-    ]
+-- how many cells a chain has, told by the chain itself
+pub count_is : (c : Tables) (a : ℕ) → count_of c a ≡ count_in (get_or c.chains a None)
+count_is c a = get_or-map count_in c.chains a None
 
-module _ (l : Links) (f t n y h s : ℕ) (lf : f < 65) (lt : t < 65) (ne : f ≢ t) (some : 0 < n) (enough : n ≤ at l.counts f)
-    (ey : y ≡ cell l.next l.heads f (n - 1))
-    (empty : at l.counts t ≡ 0 → (h ≡ at l.heads f) × (s ≡ y))
-    (full : (at l.counts t ≡ 0 → ⊥) → (h ≡ at l.heads t) × (s ≡ at l.tails t)) where
+tail_below : (l : Links) (a : ℕ) → a < 65 → (o : Option Chain) → get_or l.tables.chains a None ≡ o → tail_in o < 128
+tail_below l a la None is = omega arith
+tail_below l a la (Some u) is =
+    let e = l.ends a la u is in
+    omega (arith, e.0, e.1, l.below a (u.count - 1) la (omega (arith, count_is l.tables a, ap count_in is, e.0)))
+
+pub tail_low : (l : Links) (a : ℕ) → a < 65 → tail_in (get_or l.tables.chains a None) < 128
+tail_low l a la = tail_below l a la (get_or l.tables.chains a None) refl
+
+-- two chains together have no more cells than there are
+pub count_fits : (l : Links) (f t : ℕ) → f < 65 → t < 65 → f ≢ t → count_of l.tables f + count_in (get_or l.tables.chains t None) ≤ 128
+count_fits l f t lf lt ne =
+    let i₁ : t < length l.tables.chains = omega (arith, l.sizes.1) in
+    let i₂ : f < length (set l.tables.chains t None) = omega (arith, l.sizes.1, length-set l.tables.chains t None) in
+    omega (
+      arith,
+      l.total,
+      sum-map count_in l.tables.chains,
+      count_is l.tables f,
+      sum_by-set count_in l.tables.chains t None None i₁,
+      get_or-le-sum_by count_in (set l.tables.chains t None) f None i₂,
+      ap count_in (get_or-set_other l.tables.chains t f None None ne),
+    )
+
+-- What linking chain p behind chain t makes: no link changes, or only that of the last cell of chain t.
+record Joint (c : Tables) (t : ℕ) (p : Chain) (o' : Option Chain) (next' : List ℕ) : Type 0 where
+  head : ℕ
+  is : o' ≡ Some (record { head = head; tail = p.tail; count = count_of c t + p.count })
+  how : ((count_of c t ≡ 0) × (head ≡ p.head) × (next' ≡ c.next)) ⊎
+      ((0 < count_of c t) × (head ≡ cell c t 0) × (next' ≡ set c.next (cell c t (count_of c t - 1)) p.head))
+
+joint_at : (c : Tables) (t : ℕ) (p : Chain) (o' : Option Chain) (next' : List ℕ) → t < 65 → Ends c → (o : Option Chain) → get_or c.chains t None ≡ o → Linked o p c.next o' next' → Joint c t p o' next'
+joint_at c t p o' next' lt ends None is b =
+    let none : count_of c t ≡ 0 = count_is c t ∙ ap count_in is in
+    let n : p.count ≡ count_of c t + p.count = omega (arith, none) in
+    record { head = p.head; is = b.0 ∙ ap (λ k. Some (record { head = p.head; tail = p.tail; count = k })) n; how = inl (none, refl, b.1) }
+joint_at c t p o' next' lt ends (Some u) is b =
+    let e = ends t lt u is in
+    let some : u.count ≡ count_of c t = sym (count_is c t ∙ ap count_in is) in
+    record {
+      head = u.head;
+      is = b.0 ∙ ap (λ k. Some (record { head = u.head; tail = p.tail; count = k + p.count })) some;
+      how = inr (omega (arith, some, e.0), sym (ap head_in is), b.1 ∙ ap (λ s. set c.next s p.head) (e.1 ∙ ap (λ k. cell c t (k - 1)) some));
+    }
+
+-- what links need after it
+pub record Relinked (l : Links) (f t n : ℕ) (c : Tables) : Type 0 where
+  pub below : Below c
+  pub apart : Apart c
+  pub ends : Ends c
+  pub total : sum (counts c) ≡ 128
+  pub moved : Moved l.tables f t n c
+
+module _ (l : Links) (f t n y : ℕ) (w : Chain) (lf : f < 65) (lt : t < 65) (ne : f ≢ t) (some : 0 < n) (enough : n ≤ count_of l.tables f)
+    (ey : y ≡ cell l.tables f (n - 1)) (is : get_or l.tables.chains f None ≡ Some w)
+    (r : Option Chain) (none : w.count ≤ n → r ≡ None)
+    (left : n < w.count → r ≡ Some (record { head = get_or l.tables.next y 0; tail = w.tail; count = w.count - n }))
+    (o : Option Chain) (next' : List ℕ) (linked : Linked (get_or l.tables.chains t None) (record { head = w.head; tail = y; count = n }) l.tables.next o next') where
   abbrev N : ℕ → ℕ → ℕ
-  N a k = cell l.next l.heads a k
+  N a k = cell l.tables a k
 
   abbrev size : ℕ → ℕ
-  size a = at l.counts a
+  size a = count_of l.tables a
 
-  abbrev x : ℕ
-  x = at l.heads f
+  abbrev part : Chain
+  part = record { head = w.head; tail = y; count = n }
 
-  abbrev next' : List ℕ
-  next' = set l.next s x
+  abbrev chains : List (Option Chain)
+  chains = l.tables.chains
 
-  abbrev heads' : List ℕ
-  heads' = set (set l.heads f (at l.next y)) t h
-
-  abbrev tails' : List ℕ
-  tails' = set l.tails t y
-
-  abbrev counts' : List ℕ
-  counts' = set (set l.counts f (size f - n)) t (size t + n)
+  abbrev new : Tables
+  new = record { next = next'; chains = set (set chains t o) f r }
 
   abbrev N' : ℕ → ℕ → ℕ
-  N' a k = cell next' heads' a k
+  N' a k = cell new a k
 
   ne' : t ≢ f
   ne' e = ne (sym e)
 
-  apart : (a k c j : ℕ) → a < 65 → k < size a → c < 65 → j < size c → N a k ≡ N c j → (a ≡ c) × (k ≡ j)
-  apart a k c j p q r u e =
-      l.apart (record { a = a; k = k; c = c; j = j; a_low = p; k_low = q; c_low = r; j_low = u }) e
+  apart : (a k b i : ℕ) → a < 65 → k < size a → b < 65 → i < size b → N a k ≡ N b i → (a ≡ b) × (k ≡ i)
+  apart a k b i p q u v e =
+      l.apart (record { a = a; k = k; c = b; j = i; a_low = p; k_low = q; c_low = u; j_low = v }) e
 
-  -- the cell whose link changes
-  spot : ((size t ≡ 0) × (h ≡ x) × (s ≡ N f (n - 1))) ⊎ ((0 < size t) × (h ≡ at l.heads t) × (s ≡ N t (size t - 1)))
-  spot =
-      elim (cases_eq (size t) 0) [
-        | inl e ↦ inl (e, (empty e).0, (empty e).1 ∙ ey)
-        | inr q ↦ let p : 0 < size t = omega arith in inr (p, (full q).0, (full q).1 ∙ l.ends t lt p)
+  size_from : size f ≡ w.count
+  size_from = count_is l.tables f ∙ ap count_in is
+
+  first : N f 0 ≡ w.head
+  first = ap head_in is
+
+  joint : Joint l.tables t part o next'
+  joint = joint_at l.tables t part o next' lt l.ends (get_or chains t None) refl linked
+
+  -- the chains after it
+  chain_other : (a : ℕ) → a ≢ f → a ≢ t → get_or new.chains a None ≡ get_or chains a None
+  chain_other a nf nt = let k = l.sizes.1 in grind (arith, common_steps)
+
+  chain_from : get_or new.chains f None ≡ r
+  chain_from = let k = l.sizes.1 in grind (arith, common_steps)
+
+  chain_to : get_or new.chains t None ≡ o
+  chain_to = let k = l.sizes.1 in grind (arith, common_steps)
+
+  count_rest : count_in r ≡ size f - n
+  count_rest = elim (cases_lt n w.count) [
+    | inl q ↦ grind (arith, size_from, left q)
+    | inr q ↦ grind (arith, size_from, none)
+  ]
+
+  count-other : (a : ℕ) → a ≢ f → a ≢ t → count_of new a ≡ size a
+  count-other a nf nt = count_is new a ∙ ap count_in (chain_other a nf nt) ∙ sym (count_is l.tables a)
+
+  count-from : count_of new f ≡ size f - n
+  count-from = count_is new f ∙ ap count_in chain_from ∙ count_rest
+
+  count-to : count_of new t ≡ size t + n
+  count-to = count_is new t ∙ ap count_in chain_to ∙ ap count_in joint.is
+
+  -- the links of all cells but the last of chain t are kept
+  keep : (a k : ℕ) → a < 65 → k < size a → (a ≡ t → k + 1 < size t) → get_or next' (N a k) 0 ≡ get_or l.tables.next (N a k) 0
+  keep a k la lk nt =
+      elim joint.how [
+        | inl v ↦ ap (λ s. get_or s (N a k) 0) v.2
+        | inr v ↦
+            (let off : N a k ≢ N t (size t - 1) = (λ e. let p = apart a k t (size t - 1) la lk lt (omega arith) e in omega (arith, p.1, nt p.0)) in
+            grind (arith, common_steps, v.2))
       ]
-
-  spot_low : s < 128
-  spot_low =
-      elim spot [
-        | inl w ↦ omega (arith, w.2, l.below f (n - 1) lf (omega arith))
-        | inr w ↦ omega (arith, w.2, l.below t (size t - 1) lt (omega arith))
-      ]
-
-  off : (a k : ℕ) → a < 65 → k < size a → (a ≡ f → k + 1 ≢ n) → (a ≡ t → k + 1 < size t) → N a k ≢ s
-  off a k la lk nf nt e =
-      elim spot [
-        | inl w ↦ (let p = apart a k f (n - 1) la lk lf (omega arith) (e ∙ w.2) in nf p.0 (omega (arith, p.1)))
-        | inr w ↦ (let p = apart a k t (size t - 1) la lk lt (omega arith) (e ∙ w.2) in omega (arith, p.1, nt p.0))
-      ]
-
-  next_off : (z : ℕ) → z ≢ s → at next' z ≡ at l.next z
-  next_off z q = get_or-set_other l.next s z x 0 q
-
-  next_spot : at next' s ≡ x
-  next_spot = let i : s < length l.next = omega (arith, spot_low, l.sizes.0) in get_or-set_same l.next s x 0 i
-
-  head_other : (a : ℕ) → a ≢ f → a ≢ t → at heads' a ≡ at l.heads a
-  head_other a nf nt =
-      get_or-set_other (set l.heads f (at l.next y)) t a h 0 nt ∙ get_or-set_other l.heads f a (at l.next y) 0 nf
-
-  head_from : at heads' f ≡ at l.next y
-  head_from =
-      let i : f < length l.heads = omega (arith, l.sizes.1) in
-      get_or-set_other (set l.heads f (at l.next y)) t f h 0 ne ∙ get_or-set_same l.heads f (at l.next y) 0 i
-
-  head_to : at heads' t ≡ h
-  head_to =
-      let i : t < length (set l.heads f (at l.next y)) = omega (arith, l.sizes.1, length-set l.heads f (at l.next y)) in
-      get_or-set_same (set l.heads f (at l.next y)) t h 0 i
 
   -- the cells of the new chains
   other : (a k : ℕ) → a < 65 → a ≢ f → a ≢ t → k < size a → N' a k ≡ N a k
-  other a zero la nf nt lk = head_other a nf nt
+  other a zero la nf nt lk = ap head_in (chain_other a nf nt)
   other a (suc k) la nf nt lk =
-      ap (at next') (other a k la nf nt (omega arith))
-      ∙ next_off (N a k) (off a k la (omega arith) (λ e. absurd (nf e)) (λ e. absurd (nt e)))
+      ap (λ i. get_or next' i 0) (other a k la nf nt (omega arith)) ∙ keep a k la (omega arith) (λ e. absurd (nt e))
 
   front : (k : ℕ) → k + n < size f → N' f k ≡ N f (k + n)
   front zero lk =
       let e : suc (n - 1) ≡ 0 + n = omega arith in
-      head_from ∙ ap (at l.next) ey ∙ ap (N f) e
+      ap head_in (chain_from ∙ left (omega (arith, size_from))) ∙ ap (λ i. get_or l.tables.next i 0) ey ∙ ap (N f) e
   front (suc k) lk =
       let e : suc (k + n) ≡ suc k + n = omega arith in
-      ap (at next') (front k (omega arith))
-      ∙ next_off (N f (k + n)) (off f (k + n) lf (omega arith) (λ _ z. omega arith) (λ q. absurd (ne q)))
-      ∙ ap (N f) e
+      ap (λ i. get_or next' i 0) (front k (omega arith)) ∙ keep f (k + n) lf (omega arith) (λ q. absurd (ne q)) ∙ ap (N f) e
 
   back : (k : ℕ) → k < size t → N' t k ≡ N t k
-  back zero lk = head_to ∙ (full (λ e. omega arith)).0
-  back (suc k) lk =
-      ap (at next') (back k (omega arith)) ∙ next_off (N t k) (off t k lt (omega arith) (λ e. absurd (ne' e)) (λ _. omega arith))
+  back zero lk =
+      elim joint.how [
+        | inl v ↦ absurd (omega (arith, v.0))
+        | inr v ↦ ap head_in (chain_to ∙ joint.is) ∙ v.1
+      ]
+  back (suc k) lk = ap (λ i. get_or next' i 0) (back k (omega arith)) ∙ keep t k lt (omega arith) (λ _. omega arith)
 
-  joint : N' t (size t) ≡ x
-  joint =
-      elim spot [
-        | inl w ↦ ap (N' t) w.0 ∙ head_to ∙ w.1
-        | inr w ↦
-            (let e : size t ≡ suc (size t - 1) = omega arith in
-            ap (N' t) e ∙ ap (at next') (back (size t - 1) (omega arith) ∙ sym w.2) ∙ next_spot)
+  meet : N' t (size t) ≡ w.head
+  meet =
+      elim joint.how [
+        | inl v ↦ ap (N' t) v.0 ∙ ap head_in (chain_to ∙ joint.is) ∙ v.1
+        | inr v ↦
+            (let i = size t - 1 in
+            let e : size t ≡ suc i = omega (arith, v.0) in
+            let low : N t i < length l.tables.next = omega (arith, l.below t i lt (omega (arith, v.0)), l.sizes.0) in
+            let b = back i (omega (arith, v.0)) in
+            ap (N' t) e ∙ grind (arith, common_steps, v.2, b))
       ]
 
   joined : (k : ℕ) → k < n → N' t (size t + k) ≡ N f k
-  joined zero lk = let e : size t + 0 ≡ size t = omega arith in ap (N' t) e ∙ joint
+  joined zero lk = let e : size t + 0 ≡ size t = omega arith in ap (N' t) e ∙ meet ∙ sym first
   joined (suc k) lk =
       let e : size t + suc k ≡ suc (size t + k) = omega arith in
-      ap (N' t) e
-      ∙ ap (at next') (joined k (omega arith))
-      ∙ next_off (N f k) (off f k lf (omega arith) (λ _ z. omega arith) (λ q. absurd (ne q)))
+      ap (N' t) e ∙ ap (λ i. get_or next' i 0) (joined k (omega arith)) ∙ keep f k lf (omega arith) (λ q. absurd (ne q))
 
-  count-other : (a : ℕ) → a ≢ f → a ≢ t → at counts' a ≡ size a
-  count-other a nf nt =
-      get_or-set_other (set l.counts f (size f - n)) t a (size t + n) 0 nt ∙ get_or-set_other l.counts f a (size f - n) 0 nf
-
-  count-from : at counts' f ≡ size f - n
-  count-from =
-      let i : f < length l.counts = omega (arith, l.sizes.3) in
-      get_or-set_other (set l.counts f (size f - n)) t f (size t + n) 0 ne ∙ get_or-set_same l.counts f (size f - n) 0 i
-
-  count-to : at counts' t ≡ size t + n
-  count-to =
-      let i : t < length (set l.counts f (size f - n)) = omega (arith, l.sizes.3, length-set l.counts f (size f - n)) in
-      get_or-set_same (set l.counts f (size f - n)) t (size t + n) 0 i
-
-  old : (a k : ℕ) → a < 65 → k < at counts' a → Old N l.counts f t n (N' a k) a k
+  old : (a k : ℕ) → a < 65 → k < count_of new a → Old l.tables f t n (N' a k) a k
   old a k la lk =
       elim (cases_eq a f) [
         | inl af ↦
-            (let m : k + n < size f = omega (arith, count-from, ap (at counts') af) in
+            (let m : k + n < size f = omega (arith, count-from, ap (count_of new) af) in
             record {
               a₀ = f;
               k₀ = k + n;
               a_low = lf;
               k_low = m;
               is = ap (λ z. N' z k) af ∙ front k m;
-              how = inr (sym af, (λ _. refl), (λ q. absurd (q af)), (λ e. absurd (ne (sym af ∙ e))));
+              gone = λ _ h. absurd (omega arith);
+              left = λ _ _. (af, refl);
+              kept = λ q. absurd (q refl);
             })
         | inr nf ↦
             (elim (cases_eq a t) [
@@ -193,19 +218,23 @@ module _ (l : Links) (f t n y h s : ℕ) (lf : f < 65) (lt : t < 65) (ne : f ≢
                           a_low = lt;
                           k_low = m;
                           is = ap (λ z. N' z k) here ∙ back k m;
-                          how = inr (sym here, (λ e. absurd (nf e)), (λ _. refl), (λ _. m));
+                          gone = λ e _. absurd (ne' e);
+                          left = λ e _. absurd (ne' e);
+                          kept = λ _. (here, refl);
                         }
                     | inr m ↦
-                        (let j = k - size t in
-                        let e : k ≡ size t + j = omega arith in
-                        let low : j < n = omega (arith, count-to, ap (at counts') here) in
+                        (let i = k - size t in
+                        let e : k ≡ size t + i = omega arith in
+                        let low : i < n = omega (arith, count-to, ap (count_of new) here) in
                         record {
                           a₀ = f;
-                          k₀ = j;
+                          k₀ = i;
                           a_low = lf;
                           k_low = omega arith;
-                          is = ap (λ z. N' z k) here ∙ ap (N' t) e ∙ joined j low;
-                          how = inl (refl, here, e, low);
+                          is = ap (λ z. N' z k) here ∙ ap (N' t) e ∙ joined i low;
+                          gone = λ _ _. (here, e);
+                          left = λ _ h. absurd (omega arith);
+                          kept = λ q. absurd (q refl);
                         })
                   ])
               | inr nt ↦
@@ -216,56 +245,78 @@ module _ (l : Links) (f t n y h s : ℕ) (lf : f < 65) (lt : t < 65) (ne : f ≢
                     a_low = la;
                     k_low = m;
                     is = other a k la nf nt m;
-                    how = inr (refl, (λ e. absurd (nf e)), (λ _. refl), (λ e. absurd (nt e)));
+                    gone = λ e _. absurd (nf e);
+                    left = λ e _. absurd (nf e);
+                    kept = λ _. (refl, refl);
                   })
             ])
       ]
 
-  pub below_new : Below next' heads' counts'
+  below_new : Below new
   below_new a k la lk = let o = old a k la lk in omega (arith, o.is, l.below o.a₀ o.k₀ o.a_low o.k_low)
 
-  pub apart_new : Apart next' heads' counts'
-  apart_new w e =
-      let o = old w.a w.k w.a_low w.k_low in
-      let p = old w.c w.j w.c_low w.j_low in
-      let q = apart o.a₀ o.k₀ p.a₀ p.k₀ o.a_low o.k_low p.a_low p.k_low (sym o.is ∙ e ∙ p.is) in
-      same_place f t n (size t) w.a w.k o.a₀ o.k₀ w.c w.j p.a₀ p.k₀ o.how p.how q.0 q.1
-
-  tail-to : at tails' t ≡ y
-  tail-to = let i : t < length l.tails = omega (arith, l.sizes.2) in get_or-set_same l.tails t y 0 i
-
-  pub ends_new : Ends next' heads' tails' counts'
-  ends_new a la pos =
-      elim (cases_eq a t) [
-        | inl e ↦
-            (let m : at counts' a - 1 ≡ size t + (n - 1) = omega (arith, ap (at counts') e, count-to) in
-            ap (at tails') e ∙ tail-to ∙ ey ∙ sym (joined (n - 1) (omega arith)) ∙ ap (λ z. N' z (size t + (n - 1))) (sym e) ∙ ap (N' a) (sym m))
-        | inr nt ↦
-            (get_or-set_other l.tails t a y 0 nt
-            ∙ (elim (cases_eq a f) [
-              | inl e ↦
-                  (let i = at counts' a - 1 in
-                  let m : size f - 1 ≡ i + n = omega (arith, ap (at counts') e, count-from) in
-                  let low : i + n < size f = omega (arith, ap (at counts') e, count-from) in
-                  ap (at l.tails) e ∙ l.ends f lf (omega arith) ∙ ap (N f) m ∙ sym (front i low) ∙ ap (λ z. N' z i) (sym e))
-              | inr nf ↦
-                  (let m : at counts' a ≡ size a = count-other a nf nt in
-                  l.ends a la (omega arith) ∙ sym (other a (size a - 1) la nf nt (omega arith)) ∙ ap (λ z. N' a (z - 1)) (sym m))
-            ]))
+  apart_new : Apart new
+  apart_new p e =
+      let o = old p.a p.k p.a_low p.k_low in
+      let q = old p.c p.j p.c_low p.j_low in
+      let s = apart o.a₀ o.k₀ q.a₀ q.k₀ o.a_low o.k_low q.a_low q.k_low (sym o.is ∙ e ∙ q.is) in
+      elim (cases_eq o.a₀ f) [
+        | inl af ↦
+            (elim (cases_lt o.k₀ n) [
+              | inl m ↦ (grind (arith, o.gone, q.gone, s.0, s.1), grind (arith, o.gone, q.gone, s.0, s.1))
+              | inr m ↦ (grind (arith, o.left, q.left, s.0, s.1), grind (arith, o.left, q.left, s.0, s.1))
+            ])
+        | inr nf ↦ (grind (arith, o.kept, q.kept, s.0, s.1), grind (arith, o.kept, q.kept, s.0, s.1))
       ]
 
-  pub total_new : sum counts' ≡ 128
+  ends_new : Ends new
+  ends_new a la u e =
+      elim (cases_eq a t) [
+        | inl h ↦
+            (let i = joined (n - 1) (omega arith) in
+            (grind (arith, chain_to, joint.is), grind (arith, chain_to, joint.is, ey, i)))
+        | inr nt ↦
+            (elim (cases_eq a f) [
+              | inl h ↦
+                  (elim (cases_lt n w.count) [
+                    | inl q ↦
+                        (let old = l.ends f lf w is in
+                        let i = front (w.count - n - 1) (omega (arith, size_from)) in
+                        (grind (arith, chain_from, left), grind (arith, chain_from, left, old.1, i)))
+                    | inr q ↦ absurd (grind (arith, chain_from, none, size_from))
+                  ])
+              | inr nf ↦
+                  (let is_old : get_or chains a None ≡ Some u = sym (chain_other a nf nt) ∙ e in
+                  let old = l.ends a la u is_old in
+                  (old.0, old.1 ∙ sym (other a (u.count - 1) la nf nt (omega (arith, count_is l.tables a, ap count_in is_old, old.0)))))
+            ])
+      ]
+
+  total_new : sum (counts new) ≡ 128
   total_new =
-      let i₁ : f < length l.counts = omega (arith, l.sizes.3) in
-      let i₂ : t < length (set l.counts f (size f - n)) = omega (arith, l.sizes.3, length-set l.counts f (size f - n)) in
-      omega (arith, l.total, sum_by-set (λ z. z) l.counts f (size f - n) 0 i₁, sum_by-set (λ z. z) (set l.counts f (size f - n)) t (size t + n) 0 i₂, get_or-set_other l.counts f t (size f - n) 0 ne')
+      let i₁ : t < length chains = omega (arith, l.sizes.1) in
+      let i₂ : f < length (set chains t o) = omega (arith, l.sizes.1, length-set chains t o) in
+      omega (
+        arith,
+        l.total,
+        sum-map count_in chains,
+        sum-map count_in new.chains,
+        sum_by-set count_in chains t o None i₁,
+        sum_by-set count_in (set chains t o) f r None i₂,
+        ap count_in (get_or-set_other chains t f o None ne),
+        ap count_in is,
+        size_from,
+        count_rest,
+        ap count_in joint.is,
+        count_is l.tables t,
+      )
 
-  -- two chains together have no more cells than there are
-  pub count_fits : size t + n ≤ 128
-  count_fits =
-      let i₁ : t < length l.counts = omega (arith, l.sizes.3) in
-      let i₂ : f < length (set l.counts t 0) = omega (arith, l.sizes.3, length-set l.counts t 0) in
-      omega (arith, l.total, sum_by-set (λ z. z) l.counts t 0 0 i₁, get_or-le-sum_by (λ z. z) (set l.counts t 0) f 0 i₂, get_or-set_other l.counts t f 0 0 ne)
-
-  pub cells_moved : Moved l.next l.heads l.counts f t n next' heads' counts'
-  cells_moved = record { number = refl; other = other; front = front; back = back; joined = joined }
+  pub relinked : Relinked l f t n new
+  relinked =
+      record {
+        below = below_new;
+        apart = apart_new;
+        ends = ends_new;
+        total = total_new;
+        moved = record { left = count-from; more = count-to; kept = count-other; other = other; front = front; back = back; joined = joined };
+      }

@@ -1,17 +1,13 @@
--- The boxes of a chained carrier.
+-- The messages in the cells of chains.
 --   blank                     the message in a cell that was never used
 --   slot_test p, ranged_test m  whether a payload is none or a slot; whether a message is in its range
 --   AllRanged ms              every cell holds a message in its range, used or not
 --   waiting ms c b            the messages in the cells of chain b
---   chained l c ms            the boxes with the limits l and the messages of the chains c
 use Rattle.std.specs.Prelude.{◌≡◌, ℕ, Bool, true, ◌&&◌, List, map, get_or, Some, None, Option, nat_lt, slice_index_or}
 use Rattle.std.specs.List.{range_with_len}
-use Rattle.carriers.specs.declared.limits.Limits.{Limits}
 use Rattle.carriers.specs.declared.message.Message.{Message}
-use Rattle.carriers.specs.Boxes.{Box}
-use Rattle.carriers.specs.Tables.{boxes_from}
 use Rattle.chained.specs.declared.links.Links.{Links}
-use Rattle.chained.specs.Chains.{at, cell}
+use Rattle.chained.specs.Chains.{count_of, cell}
 
 abbrev pub blank : Message
 blank = record { number = 0; payload = None }
@@ -27,7 +23,4 @@ abbrev pub AllRanged : List Message → Type 0
 AllRanged ms = (i : ℕ) → ranged_test (slice_index_or ms i blank) ≡ true
 
 abbrev pub waiting : List Message → Links → ℕ → List Message
-waiting ms c b = map (λ k. get_or ms (cell c.next c.heads b k) blank) (range_with_len 0 (at c.counts b))
-
-abbrev pub chained : Limits → Links → List Message → List Box
-chained l c ms = boxes_from l.limits (waiting ms c)
+waiting ms c b = map (λ k. get_or ms (cell c.tables b k) blank) (range_with_len 0 (count_of c.tables b))

@@ -1,97 +1,134 @@
 // Cells linked into chains.
 ghost use Rattle.std.specs.Prelude.{◌≡◌, ℕ, ◌+◌, ◌-◌, ◌<◌, ◌≤◌, length, sum, ◌≢◌};
-ghost use Rattle.chained.specs.Chains.{at, cell, Below, Apart, Ends, Moved, Cleared};
+ghost use Rattle.std.specs.Option.{ForSome};
+ghost use Rattle.chained.specs.Chains.{count_in, tail_in, counts, count_of, cell, Below, Apart, Ends, Linked, Moved, Cleared};
+
+use std::array;
 
 /// The chain of the free cells.
 pub(crate) const FREE: u8 = 64;
 
-/// 128 cells in 65 chains: one for each box, and the last for the cells that are free. A chain is told by its first cell,
-/// each further cell by the link of the one before it, and the chain's end by its count; what the last cell links to, and
-/// the ends of an empty chain, mean nothing.
-#[derive(Drop)]
-pub(crate) struct Links {
-    /// The cell behind each cell.
-    next: [u8; 128],
-    /// The first cell of each chain.
-    heads: [u8; 65],
-    /// The last cell of each chain.
-    tails: [u8; 65],
-    /// How many cells each chain has.
-    counts: [u8; 65],
-    ghost sizes: { (length next ≡ 128) × (length heads ≡ 65) × (length tails ≡ 65) × (length counts ≡ 65) },
-    ghost below: { Below next heads counts },
-    ghost apart: { Apart next heads counts },
-    ghost ends: { Ends next heads tails counts },
-    ghost total: { sum counts ≡ 128 },
+/// A chain that has cells. It is told by its first cell, each further cell by the link of the one before it, and the
+/// chain's end by its count; what the last cell links to means nothing.
+#[derive(Clone, Copy)]
+pub(crate) struct Chain {
+    /// The first cell.
+    head: u8,
+    /// The last cell.
+    tail: u8,
+    /// How many cells the chain has.
+    count: u8,
 }
 
-/// Of two cells the one for an empty chain, or the one for another.
-fn pick(count: u8, empty: u8, other: u8) -> u8
-    ensures { (count ≡ 0 → result ≡ empty) × ((count ≢ 0) → result ≡ other) }
-{
-    if count == 0 { empty } else { other }
+impl Chain {
+    /// Links the chain behind `front`, or puts it there where that has no cells.
+    fn link(self, front: &mut Option<Chain>, next: &mut [u8; 128])
+        requires end { tail_in front.old < 128 }
+        requires fits { count_in front.old + self.count ≤ 128 }
+        ensures { Linked front.old self next.old front.new next.new }
+    {
+        match front {
+            Some(chain) => {
+                next[chain.tail as usize] = self.head;
+                chain.tail = self.tail;
+                chain.count += self.count;
+            }
+            None => *front = Some(self),
+        }
+    }
+
+    /// Leaves what is behind the first n cells of a chain, of which `next` comes first.
+    fn cut(chain: &mut Option<Chain>, n: u8, next: u8)
+        ensures none { ForSome chain.old (λ u. u.count ≤ n → chain.new ≡ None) }
+        ensures left { ForSome chain.old (λ u. n < u.count → chain.new ≡ Some (record { head = next; tail = u.tail; count = u.count - n })) }
+    {
+        match chain {
+            Some(rest) if rest.count > n => {
+                rest.head = next;
+                rest.count -= n;
+            }
+            _ => *chain = None,
+        }
+    }
+}
+
+/// 128 cells in 65 chains: one for each box, and the last for the cells that are free.
+// The memory of a carrier is fixed: all boxes share one table of cells, and a cell names the one behind it by its place.
+#[derive(Drop)]
+pub(crate) struct Tables {
+    /// The cell behind each cell.
+    // The messages lie in a table of their own: what is said of the chains then holds whatever is put into a cell.
+    next: [u8; 128],
+    /// Each chain, none where it has no cells.
+    chains: [Option<Chain>; 65],
+}
+
+/// Cells of which each stands at one place of one chain.
+#[derive(Drop)]
+pub(crate) struct Links {
+    tables: Tables,
+    ghost sizes: { (length tables.next ≡ 128) × (length tables.chains ≡ 65) },
+    ghost below: { Below tables },
+    ghost apart: { Apart tables },
+    ghost ends: { Ends tables },
+    ghost total: { sum (counts tables) ≡ 128 },
 }
 
 impl Links {
     /// All cells free, in their order.
     pub(crate) fn new() -> Links
-        ensures counts { (a : ℕ) → a < 64 → at result.counts a ≡ 0 }
+        ensures counts { (a : ℕ) → a < 64 → count_of result.tables a ≡ 0 }
     {
-        let mut next = [0; 128];
-        for i in 0..127u8 {
-            next[i as usize] = i + 1;
-        }
-        let mut counts = [0; 65];
-        counts[64] = 128;
-        let mut tails = [0; 65];
-        tails[64] = 127;
+        let next = array::from_fn(
+            |i|
+                requires { i < 128 }
+            { i as u8 + 1 },
+        );
+        let mut chains = [None; 65];
+        chains[64] = Some(Chain {
+            head: 0,
+            tail: 127,
+            count: 128,
+        });
         Links {
-            next,
-            heads: [0; 65],
-            tails,
-            counts,
+            tables: Tables { next, chains },
         }
     }
 
     /// How many cells a chain has.
     pub(crate) fn count(&self, a: u8) -> u8
         requires numbered { a < 65 }
-        ensures answer { result ≡ at self.now.counts a }
+        ensures answer { result ≡ count_of self.now.tables a }
     {
-        self.counts[a as usize]
+        self.tables.chains[a as usize].map_or(0, |chain| chain.count)
     }
 
     /// Takes the first n cells of a chain, of which `last` is the last, to the end of another.
     fn relink(&mut self, from: u8, to: u8, n: u8, last: u8)
         requires numbered { (from < 65) × ((to < 65) × ((from ≢ to))) }
-        requires some { (0 < n) × (n ≤ at self.old.counts from) }
-        requires last { last ≡ cell self.old.next self.old.heads from (n - 1) }
-        ensures moved { Moved self.old.next self.old.heads self.old.counts from to n self.new.next self.new.heads self.new.counts }
+        requires some { (0 < n) × (n ≤ count_of self.old.tables from) }
+        requires last { last ≡ cell self.old.tables from (n - 1) }
+        ensures moved { Moved self.old.tables from to n self.new.tables }
     {
-        let f = from as usize;
-        let t = to as usize;
-        let first = self.heads[f];
-        let count = self.counts[t];
-        let left = self.counts[f] - n;
-        let after = self.next[last as usize];
-        let head = pick(count, first, self.heads[t]);
-        let spot = pick(count, last, self.tails[t]);
-        self.heads[f] = after;
-        self.heads[t] = head;
-        self.next[spot as usize] = first;
-        self.tails[t] = last;
-        self.counts[f] = left;
-        self.counts[t] = count + n;
+        let whole = self.tables.chains[from as usize].unwrap();
+        let part = Chain {
+            head: whole.head,
+            tail: last,
+            count: n,
+        };
+        let after = self.tables.next[last as usize];
+        part.link(&mut self.tables.chains[to as usize], &mut self.tables.next);
+        Chain::cut(&mut self.tables.chains[from as usize], n, after);
     }
 
     /// Takes the first cell of a chain to the end of another, and answers it.
     pub(crate) fn shift(&mut self, from: u8, to: u8) -> u8
         requires numbered { (from < 65) × ((to < 65) × ((from ≢ to))) }
-        requires some { 0 < at self.old.counts from }
-        ensures first { result ≡ cell self.old.next self.old.heads from 0 }
-        ensures moved { Moved self.old.next self.old.heads self.old.counts from to 1 self.new.next self.new.heads self.new.counts }
+        requires some { 0 < count_of self.old.tables from }
+        ensures first { result ≡ cell self.old.tables from 0 }
+        ensures moved { Moved self.old.tables from to 1 self.new.tables }
     {
-        let first = self.heads[from as usize];
+        let first = self.tables.chains[from as usize].unwrap().head;
         self.relink(from, to, 1, first);
         first
     }
@@ -99,12 +136,10 @@ impl Links {
     /// Gives all cells of a box's chain back to the free ones.
     pub(crate) fn clear(&mut self, b: u8)
         requires numbered { b < 64 }
-        ensures cleared { Cleared self.old.next self.old.heads self.old.counts b self.new.next self.new.heads self.new.counts }
+        ensures cleared { Cleared self.old.tables b self.new.tables }
     {
-        let count = self.counts[b as usize];
-        let last = self.tails[b as usize];
-        if count > 0 {
-            self.relink(b, FREE, count, last);
+        if let Some(chain) = self.tables.chains[b as usize] {
+            self.relink(b, FREE, chain.count, chain.tail);
         }
     }
 }

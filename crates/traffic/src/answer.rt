@@ -5,13 +5,12 @@ use carriers::message::Message;
 use carriers::refusal::CarrierRefusal;
 use std::fmt;
 
-/// An answer, as it is printed.
+/// What an accepted call answers.
 #[derive(Clone, Copy)]
 pub(crate) enum Answer {
     Done,
     Number(u16),
     Message(Message),
-    Refused(u8),
 }
 
 impl fmt::Display for Answer {
@@ -31,44 +30,32 @@ impl fmt::Display for Answer {
                     payload: Some(slot),
                 },
             ) => write!(f, "message {number} slot {slot}"),
-            Answer::Refused(n) => write!(f, "refused {n}"),
         }
     }
 }
 
-// The answer to a call that answers nothing.
-fn done(r: Result<(), CarrierRefusal>) -> Answer {
-    match r {
-        Ok(()) => Answer::Done,
-        Err(e) => Answer::Refused(e.number()),
-    }
-}
+/// What a call answers, accepted or refused, as it is printed.
+#[derive(Clone, Copy)]
+pub(crate) struct Outcome(pub(crate) Result<Answer, CarrierRefusal>);
 
-// The answer to a call that answers a number.
-fn number(r: Result<u8, CarrierRefusal>) -> Answer {
-    match r {
-        Ok(n) => Answer::Number(n as u16),
-        Err(e) => Answer::Refused(e.number()),
-    }
-}
-
-// The answer to a call that answers a message.
-fn message(r: Result<Message, CarrierRefusal>) -> Answer {
-    match r {
-        Ok(m) => Answer::Message(m),
-        Err(e) => Answer::Refused(e.number()),
+impl fmt::Display for Outcome {
+    fn fmt<W: fmt::Write>(&self, f: &mut fmt::Formatter<W>) -> fmt::Result {
+        match self.0 {
+            Ok(answer) => write!(f, "{answer}"),
+            Err(refusal) => write!(f, "{refusal}"),
+        }
     }
 }
 
 /// Makes a call, and says what the carrier answers.
-pub(crate) fn make<C: Carrier>(carrier: &mut C, call: Call) -> Answer {
+pub(crate) fn make<C: Carrier>(carrier: &mut C, call: Call) -> Result<Answer, CarrierRefusal> {
     match call {
-        Call::Open(b, limit) => done(carrier.open(b, limit)),
-        Call::Put(b, m) => done(carrier.put(b, m)),
-        Call::Take(b) => message(carrier.take(b)),
-        Call::Count(b) => number(carrier.count(b)),
-        Call::Slack(b) => number(carrier.slack(b)),
-        Call::Spare => Answer::Number(carrier.spare()),
-        Call::Close(b) => done(carrier.close(b)),
+        Call::Open(b, limit) => carrier.open(b, limit).map(|()| Answer::Done),
+        Call::Put(b, message) => carrier.put(b, message).map(|()| Answer::Done),
+        Call::Take(b) => carrier.take(b).map(Answer::Message),
+        Call::Count(b) => carrier.count(b).map(|n| Answer::Number(n.into())),
+        Call::Slack(b) => carrier.slack(b).map(|n| Answer::Number(n.into())),
+        Call::Spare => Ok(Answer::Number(carrier.spare())),
+        Call::Close(b) => carrier.close(b).map(|()| Answer::Done),
     }
 }

@@ -7,8 +7,8 @@ mod call;
 #[cfg(test)]
 mod tests;
 
-use answer::make;
-use call::parse;
+use answer::{Outcome, make};
+use call::Call;
 use carriers::copying::Copying;
 use chained::chained::Chained;
 
@@ -18,13 +18,13 @@ fn main(rt: HostRuntime) -> anyhow::Result<()> {
     let mut copying = Copying::new();
     for line in rt.lines(heap) {
         let line = line?;
-        match parse(line.as_str()) {
-            Some(call) => {
-                let first = make(&mut chained, call);
-                let second = make(&mut copying, call);
+        match line.parse::<Call>() {
+            Ok(call) => {
+                let first = Outcome(make(&mut chained, call));
+                let second = Outcome(make(&mut copying, call));
                 println!(rt; "{line} -> {first}, {second}")?;
             }
-            None => println!(rt; "{line} -> not a call")?,
+            Err(e) => println!(rt; "{line} -> {e}")?,
         }
     }
     Ok(())

@@ -17,7 +17,7 @@ fn relay<C: Carrier>(
     first: Message,
     second: Message,
 ) -> Result<Message, CarrierRefusal>
-    ensures done { b < 64 → is_open (box_at (C.Carrier.boxes carrier.old) b) ≡ false → all_limits (C.Carrier.boxes carrier.old) + 2 ≤ C.Carrier.pool →
+    ensures done { b < 64 → is_open (box_at (C.Carrier.boxes carrier.old) b) ≡ false → all_limits (C.Carrier.boxes carrier.old) + 2 ≤ C.Carrier.POOL →
         Ranged first → Ranged second → (result ≡ Ok first) × (C.Carrier.boxes carrier.new ≡ C.Carrier.boxes carrier.old) }
 {
     carrier.open(b, 2)?;
@@ -36,23 +36,18 @@ fn numbered(number: u8, slot: u8) -> Message {
     }
 }
 
-// 0 for an accepted call, else the number of its refusal.
-fn refusal<T: Drop>(r: Result<T, CarrierRefusal>) -> u8 {
-    match r {
-        Ok(_) => 0,
-        Err(e) => e.number(),
-    }
-}
-
 // Fills eight boxes with 15 messages each, and a ninth with 8.
 fn fill<C: Carrier>(rt: &impl Abort, carrier: &mut C) {
     for b in 0..9u8 {
         let limit = if b < 8 { 15 } else { 8 };
-        assert_eq!(rt; refusal(carrier.open(b, limit)), 0);
+        assert_eq!(rt; carrier.open(b, limit), Ok(()));
         for k in 0..limit {
-            assert_eq!(rt; refusal(carrier.put(b, numbered(k, b))), 0);
+            assert_eq!(rt; carrier.put(b, numbered(k, b)), Ok(()));
         }
-        assert_eq!(rt; refusal(carrier.put(b, numbered(0, b))), 32);
+        assert_eq!(rt;
+            carrier.put(b, numbered(0, b)),
+            Err(CarrierRefusal::FullOrEmpty)
+        );
     }
 }
 
@@ -61,19 +56,21 @@ fn empty<C: Carrier>(rt: &impl Abort, carrier: &mut C) {
     for b in 0..9u8 {
         let limit = if b < 8 { 15 } else { 8 };
         for k in 0..limit {
-            assert!(rt; carrier.take(b) == Ok(numbered(k, b)));
+            assert_eq!(rt; carrier.take(b), Ok(numbered(k, b)));
         }
-        assert_eq!(rt; refusal(carrier.take(b)), 32);
+        assert_eq!(rt; carrier.take(b), Err(CarrierRefusal::FullOrEmpty));
     }
 }
 
 #[test]
 fn a_relay_answers_the_first_over_both(rt: HostRuntime) {
-    assert!(rt;
-        relay(&mut Chained::new(), 5, numbered(1, 2), numbered(3, 4)) == Ok(numbered(1, 2))
+    assert_eq!(rt;
+        relay(&mut Chained::new(), 5, numbered(1, 2), numbered(3, 4)),
+        Ok(numbered(1, 2))
     );
-    assert!(rt;
-        relay(&mut Copying::new(), 63, numbered(15, 63), numbered(3, 4)) == Ok(numbered(15, 63))
+    assert_eq!(rt;
+        relay(&mut Copying::new(), 63, numbered(15, 63), numbered(3, 4)),
+        Ok(numbered(15, 63))
     );
 }
 
@@ -82,8 +79,8 @@ fn all_cells_in_use_leave_no_spare(rt: HostRuntime) {
     let mut carrier = Chained::new();
     fill(&rt, &mut carrier);
     assert_eq!(rt; carrier.spare(), 0);
-    assert_eq!(rt; refusal(carrier.open(9, 1)), 33);
-    assert_eq!(rt; refusal(carrier.open(9, 0)), 0);
+    assert_eq!(rt; carrier.open(9, 1), Err(CarrierRefusal::NoSpare));
+    assert_eq!(rt; carrier.open(9, 0), Ok(()));
     empty(&rt, &mut carrier);
 }
 

@@ -2,6 +2,7 @@
 ghost use Rattle.std.specs.Prelude.{◌≡◌, None, MatchResult, slice_index_or};
 ghost use Rattle.carriers.specs.Limits.{Drawn, Returned, DrawRefused, ClosedRefused};
 
+use crate::box_number::BoxNumber;
 use crate::limits::Limits;
 use crate::refusal::CarrierRefusal;
 
@@ -13,17 +14,18 @@ impl Limits {
             (λ _. Drawn self.old.limits self.old.spare b limit self.new.limits self.new.spare)
             (λ e. DrawRefused self.old.limits self.old.spare b limit e × (self.new.limits ≡ self.old.limits) × (self.new.spare ≡ self.old.spare)) }
     {
-        if b > 63 || limit > 15 {
+        let b = BoxNumber::try_from(b)?;
+        if limit > 15 {
             return Err(CarrierRefusal::OutOfRange);
         }
-        let drawn = self.limits[b as usize];
+        let drawn = self.limits[b.index()];
         if drawn.is_some() {
             return Err(CarrierRefusal::OpenOrClosed);
         }
         if limit as u16 > self.spare {
             return Err(CarrierRefusal::NoSpare);
         }
-        self.limits[b as usize] = Some(limit);
+        self.limits[b.index()] = Some(limit);
         self.spare -= limit as u16;
         Ok(())
     }

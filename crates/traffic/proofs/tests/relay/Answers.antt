@@ -34,7 +34,7 @@ returns g c =
     record {
       done = λ numbered shut room ranged ranged'.
           (let z =
-          relayed g.C.Carrier.pool c.args.b _ _ _ _ _ _ c.args.first c.args.second c.in_ok-taken.taken kept.count shut
+          relayed g.C.Carrier.POOL c.args.b _ _ _ _ _ _ c.args.first c.args.second c.in_ok-taken.taken kept.count shut
           c.in_ok-open.ensures.done c.in_ok-put.ensures.done c.in_ok-put-2.ensures.done c.in_ok-taken.ensures.done c.in_ok-close.ensures.done in
           (ap Ok z.0, z.1));
     }

@@ -1,19 +1,14 @@
-use Rattle.std.proofs.Common.{arith}
-use Rattle.chained.proofs.Fresh.{heads, tails, counts, count_box, below_fresh, apart_fresh, ends_fresh}
+use Rattle.std.proofs.Common.{◌≡◌, ℕ, ◌+◌, ◌<◌, get_or, arith, rules}
+use Rattle.chained.proofs.Fresh.{chains, count_box, below_fresh, apart_fresh, ends_fresh}
 use Rattle.chained.proofs.links.Links.new.Goals as goal
 
 pub returns : goal.returns
-unfolding heads tails counts
-returns c = record { counts = count_box }
+unfolding chains
+returns c = record { counts = count_box c.from_fn-next.result }
 
-pub invariant_of-result-clause-below : goal.invariant_of-result-clause-below
-unfolding heads tails counts
-invariant_of-result-clause-below c = below_fresh c.loop-i.next (λ k h. c.loop-i.invariant.1 k (omega arith))
-
-pub invariant_of-result-clause-apart : goal.invariant_of-result-clause-apart
-unfolding heads tails counts
-invariant_of-result-clause-apart c = apart_fresh c.loop-i.next (λ k h. c.loop-i.invariant.1 k (omega arith))
-
-pub invariant_of-result-clause-ends : goal.invariant_of-result-clause-ends
-unfolding heads tails counts
-invariant_of-result-clause-ends c = ends_fresh c.loop-i.next (λ k h. c.loop-i.invariant.1 k (omega arith))
+pub invariant_of-result : goal.invariant_of-result
+unfolding chains
+invariant_of-result c =
+    let next = c.from_fn-next.result in
+    let links : (k : ℕ) → k < 127 → get_or next k 0 ≡ k + 1 = λ k h. (let s = c.from_fn-next.ensures.items.at k 0 (omega arith) in search rules) in
+    record { sizes = search rules; below = below_fresh next links; apart = apart_fresh next links; ends = ends_fresh next links; total = search rules }

@@ -1,0 +1,17 @@
+-- The messages of 64 boxes, q b in box b.
+--   all_waiting q         how many messages wait in all boxes together
+--   Within ls q           no box has more messages than its limit in ls
+--   Others q b q'         the messages q' of every box but b are those of q
+use Rattle.std.specs.Prelude.{◌≡◌, ℕ, ◌<◌, ◌≤◌, ◌≢◌, List, map, length, None, sum, Option, slice_index_or}
+use Rattle.std.specs.List.{range_with_len}
+use Rattle.carriers.specs.declared.message.Message.{Message}
+use Rattle.carriers.specs.Limits.{limit_in}
+
+unfoldable pub all_waiting : (ℕ → List Message) → ℕ
+all_waiting q = sum (map (λ b. length (q b)) (range_with_len 0 64))
+
+abbrev pub Within : List (Option ℕ) → (ℕ → List Message) → Type 0
+Within ls q = (b : ℕ) → b < 64 → length (q b) ≤ limit_in (slice_index_or ls b None)
+
+abbrev pub Others : (ℕ → List Message) → ℕ → (ℕ → List Message) → Type 0
+Others q b q' = (a : ℕ) → a < 64 → (a ≢ b) → q' a ≡ q a
