@@ -9,7 +9,8 @@ use Rattle.words.specs.declared.name.Name.{Name}
 use Rattle.words.specs.declared.name.Ident.{Ident}
 use Rattle.syntax.specs.declared.tree.Message.{Message}
 use Rattle.syntax.specs.declared.tree.Head.{Head}
-use Rattle.syntax.specs.Trees.{declares, no_ident}
+use Rattle.grammar.specs.Families.{no_ident}
+use Rattle.syntax.specs.Trees.{declares}
 use Rattle.contracts.specs.Names.{ContractNamed, head_at, MessageIn, MessageNamed, Sized, StateIn, StateNamed}
 
 -- what the code reads past the last contract

@@ -1,15 +1,14 @@
 // The words that every grammar asks for: each method fetches a word, and refuses one that is not allowed there.
-ghost use Rattle.std.specs.Prelude.{◌≡◌, ◌+◌, ◌≤◌, length, OnOk, ◌==◌};
+ghost use Rattle.std.specs.Prelude.{◌≡◌, ◌≤◌, length};
 ghost use Rattle.words.specs.Signs.{said, name_of, mark_size};
-ghost use Rattle.words.specs.Stream.{bytes_in};
-ghost use Rattle.grammar.specs.Table.{mark_code, refused, in_name};
-ghost use Rattle.grammar.specs.Feeds.{in_mark, in_name_or, left, source_in, fetched, Moved, admitted};
+ghost use Rattle.grammar.specs.Table.{refused, in_name};
+ghost use Rattle.grammar.specs.Feeds.{in_keyword, in_keyword_or_end, in_keyword_or_mark, in_mark, in_name_or, source_in, Fetches, admitted};
 
 use crate::fault::GrammarFault;
 use crate::feed::Feed;
 use words::fault::Span;
 use words::name::{Ident, Name};
-use words::word::{Mark, Word};
+use words::word::{Keyword, Mark, Word};
 
 // The name with these bytes at a place.
 fn ident(place: usize, bytes: &[u8]) -> Ident
@@ -20,13 +19,6 @@ fn ident(place: usize, bytes: &[u8]) -> Ident
         place,
         name: Name::copied(bytes),
     }
-}
-
-// Whether two marks are the same.
-fn same_mark(a: Mark, b: Mark) -> bool
-    ensures { result ≡ (mark_code a == mark_code b) }
-{
-    a == b
 }
 
 impl<'a> Feed<'a> {
@@ -50,10 +42,7 @@ impl<'a> Feed<'a> {
 
     /// The name that stands next; 4 where another word does.
     pub fn name(&mut self) -> Result<Ident, GrammarFault>
-        ensures head { result ≡ fetched in_name self.old }
-        ensures rest { Moved self.old self.new }
-        ensures left { bytes_in (left self.new) ≤ bytes_in (left self.old) }
-        ensures spent { OnOk result (1 + bytes_in (left self.new) ≤ bytes_in (left self.old)) }
+        ensures { Fetches 1 in_name self.old result self.new }
     {
         let word = self.next()?;
         match word {
@@ -64,29 +53,58 @@ impl<'a> Feed<'a> {
 
     /// The name that stands next, or none where the mark does; 4 where another word does.
     pub fn name_or(&mut self, mark: Mark) -> Result<Option<Ident>, GrammarFault>
-        ensures head { result ≡ fetched (in_name_or mark) self.old }
-        ensures rest { Moved self.old self.new }
-        ensures left { bytes_in (left self.new) ≤ bytes_in (left self.old) }
-        ensures spent { OnOk result (1 + bytes_in (left self.new) ≤ bytes_in (left self.old)) }
+        ensures { Fetches 1 (in_name_or mark) self.old result self.new }
     {
         let word = self.next()?;
         match word {
             Word::Name { place, bytes } => Ok(Some(ident(place, bytes))),
-            Word::Mark { mark: found, .. } if same_mark(mark, found) => Ok(None),
+            Word::Mark { mark: found, .. } if found == mark => Ok(None),
             _ => Err(self.unexpected(word)),
         }
     }
 
     /// Passes the mark that stands next; 4 where another word does.
     pub fn mark(&mut self, mark: Mark) -> Result<(), GrammarFault>
-        ensures head { result ≡ fetched (in_mark mark) self.old }
-        ensures rest { Moved self.old self.new }
-        ensures left { bytes_in (left self.new) ≤ bytes_in (left self.old) }
-        ensures spent { OnOk result (mark_size mark + bytes_in (left self.new) ≤ bytes_in (left self.old)) }
+        ensures { Fetches (mark_size mark) (in_mark mark) self.old result self.new }
     {
         let word = self.next()?;
         match word {
-            Word::Mark { mark: found, .. } if same_mark(mark, found) => Ok(()),
+            Word::Mark { mark: found, .. } if found == mark => Ok(()),
+            _ => Err(self.unexpected(word)),
+        }
+    }
+
+    /// Passes the reserved word that stands next; 4 where another word does.
+    pub fn keyword(&mut self, keyword: Keyword) -> Result<(), GrammarFault>
+        ensures { Fetches 1 (in_keyword keyword) self.old result self.new }
+    {
+        let word = self.next()?;
+        match word {
+            Word::Keyword { keyword: found, .. } if found == keyword => Ok(()),
+            _ => Err(self.unexpected(word)),
+        }
+    }
+
+    /// Whether the reserved word stands next, and not the text's end; 4 where another word does.
+    pub fn keyword_or_end(&mut self, keyword: Keyword) -> Result<bool, GrammarFault>
+        ensures { Fetches 0 (in_keyword_or_end keyword) self.old result self.new }
+    {
+        let word = self.next()?;
+        match word {
+            Word::Keyword { keyword: found, .. } if found == keyword => Ok(true),
+            Word::End { .. } => Ok(false),
+            _ => Err(self.unexpected(word)),
+        }
+    }
+
+    /// Whether the reserved word stands next, and not the mark; 4 where another word does.
+    pub fn keyword_or_mark(&mut self, keyword: Keyword, mark: Mark) -> Result<bool, GrammarFault>
+        ensures { Fetches 1 (in_keyword_or_mark keyword mark) self.old result self.new }
+    {
+        let word = self.next()?;
+        match word {
+            Word::Keyword { keyword: found, .. } if found == keyword => Ok(true),
+            Word::Mark { mark: found, .. } if found == mark => Ok(false),
             _ => Err(self.unexpected(word)),
         }
     }

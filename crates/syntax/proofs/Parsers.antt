@@ -4,10 +4,12 @@ use Rattle.std.proofs.lemmas.List.{length_push, map_push}
 use Rattle.syntax.specs.declared.tree.Move.{Move}
 use Rattle.syntax.specs.declared.tree.MoveEntry.{MoveEntry}
 use Rattle.grammar.specs.declared.fault.GrammarFault.{GrammarFault}
-use Rattle.syntax.specs.declared.feed.Feed.{Feed}
+use Rattle.grammar.specs.declared.feed.Feed.{Feed}
 use Rattle.syntax.specs.declared.tree.Head.{Head}
 use Rattle.syntax.specs.Trees.{HeadTree, Parts, declares}
-use Rattle.syntax.specs.Picks.{in_state, fetched}
+use Rattle.words.specs.declared.word.Keyword.TheVariants.{State}
+use Rattle.words.specs.declared.word.Mark.TheVariants.{CloseBrace}
+use Rattle.grammar.specs.Feeds.{in_keyword_or_mark, fetched}
 use Rattle.syntax.specs.Machine.{Progress, add_move, reading}
 use Rattle.syntax.specs.Machine as q
 
@@ -19,7 +21,7 @@ added p vs k j v e a b = cc
 pub heavier : {X : Type 0} (xs ys : List X) (x : X) (n : ℕ) → ys ≡ xs ++ x ∷ [] → 6 * length ys + n ≡ (6 * length xs + n) + 6
 heavier xs ys x n e = let l : length ys ≡ length xs + 1 = ap length e ∙ length_push xs x in omega arith
 
-pub states_refuse : (p : Progress) (a : Feed) (f : GrammarFault) → Err f ≡ fetched in_state a → reading (q.states p) a ≡ Err f
+pub states_refuse : (p : Progress) (a : Feed) (f : GrammarFault) → Err f ≡ fetched (in_keyword_or_mark State CloseBrace) a → reading (q.states p) a ≡ Err f
 states_refuse p a f e = search rules
 
 pub joined : (hs ks : List Head) (h : Head) (t : HeadTree) (vs : List MoveEntry) → ks ≡ hs ++ h ∷ [] → declares h ≡ t

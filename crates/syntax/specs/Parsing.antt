@@ -10,7 +10,7 @@ use Rattle.grammar.specs.declared.fault.GrammarFault.{GrammarFault}
 use Rattle.syntax.specs.declared.parser.Parser.{Parser}
 use Rattle.grammar.specs.Rows.{row_items}
 use Rattle.syntax.specs.Trees.{Parts, declares}
-use Rattle.syntax.specs.Picks.{left}
+use Rattle.grammar.specs.Feeds.{left}
 use Rattle.syntax.specs.Machine.{At, Progress, reading}
 
 abbrev pub progress : Parser → Progress

@@ -1,6 +1,6 @@
 // Whether a name stands in its family: a contract's states, a contract's messages, a file's contracts.
 ghost use Rattle.std.specs.Prelude.{◌≡◌, map};
-ghost use Rattle.syntax.specs.Table.{known};
+ghost use Rattle.grammar.specs.Table.{known};
 ghost use Rattle.syntax.specs.Trees.{declares};
 
 use crate::tree::{Head, Message};

@@ -1,20 +1,21 @@
 // Reads a contract file by its grammar, from the left, one word at a time.
 ghost use Rattle.std.specs.Prelude.{◌≡◌, ◌+◌, ◌<◌, ◌≤◌, [], length, Ok, OnOk};
 ghost use Rattle.grammar.specs.Rows.{row_items};
-ghost use Rattle.syntax.specs.Table.{Goes};
+ghost use Rattle.grammar.specs.Table.{Goes};
 ghost use Rattle.syntax.specs.Machine as q;
-ghost use Rattle.syntax.specs.Picks.{left};
+ghost use Rattle.grammar.specs.Feeds.{left, source_in};
 ghost use Rattle.syntax.specs.Trees.{parts_of, parts};
 ghost use Rattle.syntax.specs.Parsing.{progress, parts_in, reads, unread, weight as weigh};
 
 use crate::cargo::Cargo;
 use crate::family::{has_contract, has_message, has_state};
-use grammar::fault::GrammarFault;
-use crate::feed::Feed;
-use grammar::row::Row;
+use crate::fetch::{cargo, message_or_state, way};
 use crate::tree::{Head, Mark, Message, Move, MoveEntry, Payload, Role, Tree};
+use grammar::fault::GrammarFault;
+use grammar::feed::Feed;
+use grammar::row::Row;
 use words::name::{Ident, Name};
-use words::word::Mark as MarkWord;
+use words::word::{Keyword, Mark as MarkWord};
 
 // What is left to read, the contracts and moves that were read, and the contract that is being read.
 #[derive(Drop)]
@@ -46,7 +47,7 @@ impl<'a> Parser<'a> {
     // Nothing was read.
     pub(crate) fn new(feed: Feed<'a>) -> Parser<'a>
         ensures value { parts_in result ≡ parts_of [] }
-        ensures feed { (result.feed.source ≡ feed.entry.source) × (left result.feed ≡ left feed.entry) }
+        ensures feed { (source_in result.feed ≡ source_in feed.entry) × (left result.feed ≡ left feed.entry) }
     {
         let head = Head {
             ident: NO_IDENT,
@@ -88,7 +89,7 @@ impl<'a> Parser<'a> {
         ensures spent { OnOk result (weigh self.new + 4 ≤ weigh self.old) }
         ensures heads { self.new.heads ≡ self.old.heads }
     {
-        let mark = self.feed.way()?;
+        let mark = way(&mut self.feed)?;
         self.feed.mark(MarkWord::Arrow)?;
         let target = self.feed.name()?;
         Ok(Move {
@@ -137,7 +138,7 @@ impl<'a> Parser<'a> {
         ensures weight { weigh self.new ≤ weigh self.old }
         ensures heads { self.new.heads ≡ self.old.heads }
     {
-        while let Some(message) = self.feed.move_or_end()? {
+        while let Some(message) = self.feed.name_or(MarkWord::CloseBrace)? {
             self.move_of(message)?;
         }
         Ok(())
@@ -181,7 +182,10 @@ impl<'a> Parser<'a> {
     {
         loop {
             self.state()?;
-            if !self.feed.state_or_end()? {
+            if !self
+                .feed
+                .keyword_or_mark(Keyword::State, MarkWord::CloseBrace)?
+            {
                 return Ok(());
             }
         }
@@ -240,7 +244,7 @@ impl<'a> Parser<'a> {
         ensures weight { weigh self.new ≤ weigh self.old }
         ensures heads { self.new.heads ≡ self.old.heads }
     {
-        match self.feed.cargo()? {
+        match cargo(&mut self.feed)? {
             Cargo::Nothing => {
                 self.add_message(Message {
                     mark,
@@ -291,7 +295,7 @@ impl<'a> Parser<'a> {
         ensures weight { weigh self.new ≤ weigh self.old }
         ensures heads { self.new.heads ≡ self.old.heads }
     {
-        while let Some(mark) = self.feed.message_or_state()? {
+        while let Some(mark) = message_or_state(&mut self.feed)? {
             self.message(mark)?;
         }
         Ok(())
@@ -370,10 +374,10 @@ impl<'a> Parser<'a> {
         requires { weigh self.old ≤ 4096 }
         ensures { Goes (reads (q.start (parts_in self.old)) self.old) result (λ _. Ok (parts_in self.new)) }
     {
-        self.feed.contract()?;
+        self.feed.keyword(Keyword::Contract)?;
         loop {
             self.contract()?;
-            if !self.feed.contract_or_end()? {
+            if !self.feed.keyword_or_end(Keyword::Contract)? {
                 return Ok(());
             }
         }

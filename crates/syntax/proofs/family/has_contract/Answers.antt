@@ -1,8 +1,8 @@
 use Rattle.std.proofs.Common.{◌≡◌, ℕ, map, get_or, sym, refl, ap, ◌∙◌, arith, rules}
 use Rattle.std.proofs.lemmas.List.{at_drop_all}
-use Rattle.syntax.specs.Table.{known}
+use Rattle.grammar.specs.Table.{known}
 use Rattle.syntax.specs.Trees.{declares}
-use Rattle.syntax.proofs.Names.{known_here, known_more}
+use Rattle.grammar.proofs.Names.{known_here, known_more}
 use Rattle.syntax.proofs.family.has_contract.Goals as goal
 
 pub returns-then-same : goal.returns-then-same

@@ -1,5 +1,5 @@
 use Rattle.std.proofs.Common.{◌≡◌, map, drop}
-use Rattle.syntax.specs.Table.{known}
+use Rattle.grammar.specs.Table.{known}
 use Rattle.syntax.specs.Trees.{declares}
 use Rattle.syntax.proofs.family.has_contract.Given as goal
 

@@ -1,7 +1,7 @@
 use Rattle.std.proofs.Common.{◌≡◌, ℕ, map, sym, refl, ◌∙◌, arith}
 use Rattle.std.proofs.lemmas.List.{at_drop_all}
-use Rattle.syntax.specs.Table.{known}
-use Rattle.syntax.proofs.Names.{known_here, known_more}
+use Rattle.grammar.specs.Table.{known}
+use Rattle.grammar.proofs.Names.{known_here, known_more}
 use Rattle.syntax.proofs.family.has_message.Goals as goal
 
 pub returns-then-same : goal.returns-then-same

@@ -1,5 +1,5 @@
 use Rattle.std.proofs.Common.{◌≡◌, map, drop}
-use Rattle.syntax.specs.Table.{known}
+use Rattle.grammar.specs.Table.{known}
 use Rattle.syntax.proofs.family.has_message.Given as goal
 
 abbrev pub invariant-loop-x : goal.invariant-loop-x
