@@ -1,5 +1,5 @@
--- What a parser holds after an entry more.
-use Rattle.std.proofs.Common.{◌≡◌, ℕ, ◌+◌, ◌-◌, ◌*◌, List, [], ◌∷◌, ◌++◌, map, length, Err, ap, ◌∙◌, arith, rules}
+-- What a parser holds after an entry more, and where it stands after some.
+use Rattle.std.proofs.Common.{◌≡◌, ℕ, ◌+◌, ◌-◌, ◌*◌, ◌≤◌, List, [], ◌∷◌, ◌++◌, map, length, Err, ap, ◌∙◌, arith, rules}
 use Rattle.std.proofs.lemmas.List.{length_push, map_push}
 use Rattle.syntax.specs.declared.tree.Move.{Move}
 use Rattle.syntax.specs.declared.tree.MoveEntry.{MoveEntry}
@@ -10,7 +10,9 @@ use Rattle.syntax.specs.Trees.{HeadTree, Parts, declares}
 use Rattle.words.specs.declared.word.Keyword.TheVariants.{State}
 use Rattle.words.specs.declared.word.Mark.TheVariants.{CloseBrace}
 use Rattle.grammar.specs.Feeds.{in_keyword_or_mark, fetched}
-use Rattle.syntax.specs.Machine.{Progress, add_move, reading}
+use Rattle.syntax.specs.declared.parser.Parser.{Parser}
+use Rattle.syntax.specs.Machine.{At, Progress, add_move, reading}
+use Rattle.syntax.specs.Parsing.{progress, reads, unread}
 use Rattle.syntax.specs.Machine as q
 
 pub added : (p : Progress) (vs : List MoveEntry) (k j : ℕ) (v : Move)
@@ -27,3 +29,7 @@ states_refuse p a f e = search rules
 pub joined : (hs ks : List Head) (h : Head) (t : HeadTree) (vs : List MoveEntry) → ks ≡ hs ++ h ∷ [] → declares h ≡ t
     → ◌≡◌ {A = Parts} (record { heads = map declares ks; moves = vs }) (record { heads = map declares hs ++ t ∷ []; moves = vs })
 joined hs ks h t vs e d = let m : map declares ks ≡ map declares hs ++ t ∷ [] = ap (map declares) e ∙ map_push declares hs h ∙ ap (λ x. map declares hs ++ x ∷ []) d in cc
+
+-- b stands where a stood, and has read on
+abbrev pub Follows : (Progress → At) → Parser → Parser → Type 0
+Follows at a b = (reads (at (progress a)) a ≡ reads (at (progress b)) b) × (unread b ≤ unread a) × (b.heads ≡ a.heads)

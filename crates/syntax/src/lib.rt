@@ -13,7 +13,6 @@ ghost use Rattle.grammar.specs.Table.{run};
 ghost use Rattle.syntax.specs.Machine.{ask, start};
 
 mod cargo;
-mod family;
 mod fetch;
 mod parser;
 pub mod tree;
