@@ -1,5 +1,4 @@
 -- What is read off a fetched word.
---   or_else o f p         f of what is in o, or else p
 --   in_mark y x           whether the word x is the mark y
 --   in_keyword k x        whether the word x is the reserved word k
 --   in_keyword_or_end k x       whether the word x is k, and not the end, if it is one of these
@@ -22,11 +21,7 @@ use Rattle.words.specs.Reading.{rest, source_of}
 use Rattle.grammar.specs.declared.fault.GrammarFault.{GrammarFault}
 use Rattle.grammar.specs.declared.fault.GrammarFault.TheVariants as fault
 use Rattle.grammar.specs.declared.feed.Feed.{Feed}
-use Rattle.grammar.specs.Table.{is_key, is_mark, is_end, in_name, known, picked}
-
-abbrev pub or_else : {X Y : Type 0} → Option X → (X → Y) → Option Y → Option Y
-or_else (Some x) f o = Some (f x)
-or_else None f o = o
+use Rattle.grammar.specs.Table.{is_key, is_mark, is_end, in_name, known, opt, first_of, picked}
 
 abbrev pub in_mark : Mark → Sign → Option (Unit {0})
 in_mark y x = cond (is_mark y x) (Some tt) None
@@ -41,7 +36,7 @@ abbrev pub in_keyword_or_mark : Keyword → Mark → Sign → Option Bool
 in_keyword_or_mark k y x = cond (is_key k x) (Some true) (cond (is_mark y x) (Some false) None)
 
 abbrev pub in_name_or : Mark → Sign → Option (Option Ident)
-in_name_or y x = or_else (in_name x) Some (cond (is_mark y x) (Some None) None)
+in_name_or y x = first_of (opt Some (in_name x)) (cond (is_mark y x) (Some None) None)
 
 abbrev pub left : Feed → Stream
 left from = rest from.reader

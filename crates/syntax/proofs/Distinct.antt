@@ -1,11 +1,11 @@
 -- In a file with no word at fault no name stands twice in its family.
-use Rattle.std.proofs.Common.{◌≡◌, List, [], ◌∷◌, map, sym, refl, ap, subst, arith}
+use Rattle.std.proofs.Common.{List, [], map, sym, subst, arith}
 use Rattle.words.specs.Signs.{Sign}
 use Rattle.grammar.specs.Families.{Once}
 use Rattle.grammar.proofs.Admissions.{once-each}
 use Rattle.grammar.proofs.Spelled.{each_mapped}
 use Rattle.syntax.specs.declared.tree.Message.{Message}
-use Rattle.syntax.specs.Trees.{StateTree, ContractTree, HeadTree, parts_of, head_tree, no_head, Distinct}
+use Rattle.syntax.specs.Trees.{StateTree, ContractTree, parts_of, head_tree, no_head, Distinct}
 use Rattle.syntax.specs.Grammar.{file_words, Spells}
 use Rattle.syntax.specs.Laws.{Clean}
 use Rattle.syntax.proofs.Ranges.{contract-at, message-at, state-at}

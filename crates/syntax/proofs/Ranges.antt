@@ -1,7 +1,7 @@
 -- A file with no word at fault keeps the limits, and each of its moves is a move of a state that it declares.
-use Rattle.std.proofs.Common.{◌≡◌, ℕ, zero, suc, ◌+◌, ◌<◌, ◌≤◌, List, [], ◌∷◌, ◌++◌, map, length, get_or, take, drop, sym, refl, ap, ◌∙◌, subst, append_assoc, le_of_suc-le-suc, arith, length-append, length-take}
+use Rattle.std.proofs.Common.{◌≡◌, ℕ, zero, suc, ◌+◌, ◌<◌, ◌≤◌, List, [], ◌∷◌, ◌++◌, map, length, get_or, sym, refl, ap, ◌∙◌, subst, append_assoc, le_of_suc-le-suc, arith, length-append}
 use lib.ListN.{length-map}
-use lib.Seq.{split_at, get_or_at}
+use lib.Seq.{get_or_at}
 use Rattle.std.proofs.lemmas.List.{map-append, length_push}
 use Rattle.words.specs.declared.name.Ident.{Ident}
 use Rattle.words.specs.declared.word.Keyword.TheVariants as k

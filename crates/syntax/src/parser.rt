@@ -8,6 +8,7 @@ mod messages;
 mod moves;
 
 use crate::tree::{Head, Mark, Message, Move, MoveEntry, Payload, Tree};
+use grammar::family::Named;
 use grammar::fault::GrammarFault;
 use grammar::feed::Feed;
 use grammar::row::Row;
@@ -49,6 +50,15 @@ const NO_MOVE: MoveEntry = MoveEntry {
         target: NO_IDENT,
     },
 };
+
+// A contract stands among the file's under its name.
+impl Named for Head {
+    ghost named = { λ x. x.ident };
+
+    fn ident(&self) -> Ident {
+        self.ident
+    }
+}
 
 impl<'a> Parser<'a> {
     ghost use Rattle.std.specs.Prelude.{◌≡◌, ◌<◌, [], Ok, OnOk};

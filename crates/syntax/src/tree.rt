@@ -2,7 +2,6 @@
 ghost use Rattle.std.specs.Prelude.{◌≡◌};
 ghost use Rattle.grammar.specs.Rows.{row_items};
 
-use grammar::family::Named;
 use grammar::row::Row;
 use words::name::Ident;
 
@@ -40,14 +39,6 @@ pub struct Message {
     pub payload: Payload,
 }
 
-impl Named for Message {
-    ghost named = { λ x. x.ident };
-
-    fn ident(&self) -> Ident {
-        self.ident
-    }
-}
-
 /// A move as it is written: a message, a mark and a target.
 #[derive(Clone, Copy)]
 pub struct Move {
@@ -70,14 +61,6 @@ pub struct Head {
     pub ident: Ident,
     pub messages: Row<Message, 16>,
     pub states: Row<Ident, 16>,
-}
-
-impl Named for Head {
-    ghost named = { λ x. x.ident };
-
-    fn ident(&self) -> Ident {
-        self.ident
-    }
 }
 
 /// The contracts of a file, and all their moves in the order of the text.

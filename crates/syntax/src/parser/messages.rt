@@ -8,9 +8,19 @@ use crate::cargo::Cargo;
 use crate::fetch::{cargo, message_or_state};
 use crate::parser::Parser;
 use crate::tree::{Mark, Message, Payload};
+use grammar::family::Named;
 use grammar::fault::GrammarFault;
 use words::name::Ident;
 use words::word::Mark as MarkWord;
+
+// A message stands among its contract's under its name.
+impl Named for Message {
+    ghost named = { λ x. x.ident };
+
+    fn ident(&self) -> Ident {
+        self.ident
+    }
+}
 
 impl<'a> Parser<'a> {
     // The `;` of a message.
