@@ -1,12 +1,14 @@
 // The words that every grammar asks for: each method fetches a word, and refuses one that is not allowed there.
 ghost use Rattle.std.specs.Prelude.{◌≡◌, ◌≤◌, map, length};
 ghost use Rattle.words.specs.Signs.{said, name_of, mark_size};
+ghost use Rattle.grammar.specs.Rows.{row_items};
 ghost use Rattle.grammar.specs.Table.{refused, in_name};
 ghost use Rattle.grammar.specs.Feeds.{in_keyword, in_keyword_or_end, in_keyword_or_mark, in_mark, in_name_or, source_in, Fetches, admitted};
 
 use crate::family::{Named, has_name};
 use crate::fault::GrammarFault;
 use crate::feed::Feed;
+use crate::row::Row;
 use words::fault::Span;
 use words::name::{Ident, Name};
 use words::word::{Keyword, Mark, Word};
@@ -108,17 +110,17 @@ impl<'a> Feed<'a> {
         }
     }
 
-    /// Whether a name may join a family: 6 where the family has as many as it may, 7 where the name stands there before.
-    pub fn admit<T: Named>(
+    /// Whether a name may join its family: 6 where there is no room, 7 where it stands before.
+    pub fn admit<T: Named + Copy, const N: usize>(
         &self,
         ident: Ident,
-        family: &[T],
-        limit: usize,
+        family: &Row<T, N>,
     ) -> Result<(), GrammarFault>
-        ensures { result ≡ admitted (source_in self.now) ident limit (map T.named family.now) }
+        ensures { result ≡ admitted (source_in self.now) ident N (map T.named (row_items family.now)) }
     {
-        let full = family.len() >= limit;
-        let seen = has_name(family, ident);
+        let names = family.as_slice();
+        let full = names.len() >= N;
+        let seen = has_name(names, ident);
         let span = ident.span(self.source());
         if full {
             return Err(GrammarFault::TooMany(span));
