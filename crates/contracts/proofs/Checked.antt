@@ -12,8 +12,8 @@ use Rattle.std.proofs.lemmas.Bool.{cases_lt}
 use Rattle.words.specs.declared.fault.Source.TheVariants.{Contracts}
 use Rattle.words.specs.Reading.{too_large}
 use Rattle.words.specs.Stream.{words_of}
-use Rattle.syntax.specs.declared.fault.GrammarFault.{GrammarFault}
-use Rattle.syntax.specs.declared.fault.GrammarFault.TheVariants as g
+use Rattle.grammar.specs.declared.fault.GrammarFault.{GrammarFault}
+use Rattle.grammar.specs.declared.fault.GrammarFault.TheVariants as g
 use Rattle.syntax.specs.declared.tree.Tree.{Tree}
 use Rattle.syntax.specs.Grammar.{Stated}
 use Rattle.syntax.specs.Laws.{Exact, Right, signs}

@@ -3,7 +3,7 @@ use Rattle.std.proofs.Common.{◌≡◌, ℕ, List, [], ◌∷◌, ◌++◌, Som
 use Rattle.std.proofs.lemmas.List.{map-append}
 use Rattle.words.specs.Signs.{Sign, Word}
 use Rattle.words.specs.Stream.{Stream, stop, bad, word}
-use Rattle.syntax.specs.declared.fault.GrammarFault.{GrammarFault}
+use Rattle.grammar.specs.declared.fault.GrammarFault.{GrammarFault}
 use Rattle.syntax.specs.Trees.{ContractTree, Parts, parts_of}
 use Rattle.syntax.specs.Grammar.{Spells}
 use Rattle.syntax.specs.Laws.{joins, signs, Passed, Clean, Lowest, unexpected, too_many, repeated, Wrong, Right, Exact}

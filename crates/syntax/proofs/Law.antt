@@ -6,8 +6,8 @@ use Rattle.words.specs.declared.fault.Source.TheVariants.{Contracts}
 use Rattle.words.specs.Signs.{Sign, Word, size_of}
 use Rattle.words.specs.Signs as s
 use Rattle.words.specs.Stream.{Stream, stop, bad, word, Proper}
-use Rattle.syntax.specs.declared.fault.GrammarFault.{GrammarFault}
-use Rattle.syntax.specs.declared.fault.GrammarFault.TheVariants as fault
+use Rattle.grammar.specs.declared.fault.GrammarFault.{GrammarFault}
+use Rattle.grammar.specs.declared.fault.GrammarFault.TheVariants as fault
 use Rattle.syntax.specs.Trees.{Parts}
 use Rattle.syntax.specs.Grammar.{Spells, Viable}
 use Rattle.syntax.specs.Laws.{joins, signs, Beyond, Second, Passed, Clean, span_of, Lowest, unexpected, Wrong, Right}

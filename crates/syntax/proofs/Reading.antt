@@ -3,7 +3,7 @@ use Rattle.std.proofs.Common.{◌≡◌, ℕ, List, [], IfOk, Ok, Err, Result, s
 use Rattle.words.specs.declared.fault.Source.TheVariants.{Contracts}
 use Rattle.words.specs.Stream.{words_of}
 use Rattle.words.proofs.Streams.{stream-proper}
-use Rattle.syntax.specs.declared.fault.GrammarFault.{GrammarFault}
+use Rattle.grammar.specs.declared.fault.GrammarFault.{GrammarFault}
 use Rattle.syntax.specs.declared.tree.Tree.{Tree}
 use Rattle.syntax.specs.Trees.{parts_of, parts, Ranged}
 use Rattle.syntax.specs.Laws.{signs, Right, Exact, outcome}

@@ -25,8 +25,8 @@ use Rattle.words.specs.declared.fault.WordFault.TheVariants.{NoWord}
 use Rattle.words.specs.Signs.{Sign, Word, size_of}
 use Rattle.words.specs.Signs as s
 use Rattle.words.specs.Stream.{Stream, stop, bad, word}
-use Rattle.syntax.specs.declared.fault.GrammarFault.{GrammarFault}
-use Rattle.syntax.specs.declared.fault.GrammarFault.TheVariants as fault
+use Rattle.grammar.specs.declared.fault.GrammarFault.{GrammarFault}
+use Rattle.grammar.specs.declared.fault.GrammarFault.TheVariants as fault
 use Rattle.syntax.specs.declared.tree.Mark.{Mark}
 use Rattle.syntax.specs.declared.tree.Message.{Message}
 use Rattle.syntax.specs.declared.tree.Tree.{Tree}

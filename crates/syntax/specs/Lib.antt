@@ -1,7 +1,5 @@
-pub mod Rows
 pub mod Trees
 pub mod Grammar
-pub mod Faults
 pub mod Laws
 pub mod Table
 pub mod Sizes

@@ -8,7 +8,7 @@ use Rattle.std.specs.Prelude.{◌-◌, List, [], ◌∷◌, ◌++◌, map, lengt
 use Rattle.words.specs.declared.name.Ident.{Ident}
 use Rattle.words.specs.declared.word.Keyword.TheVariants as k
 use Rattle.words.specs.declared.word.Mark.TheVariants as m
-use Rattle.syntax.specs.declared.fault.GrammarFault.{GrammarFault}
+use Rattle.grammar.specs.declared.fault.GrammarFault.{GrammarFault}
 use Rattle.syntax.specs.declared.tree.Mark.{Mark}
 use Rattle.syntax.specs.declared.tree.Mark.TheVariants.{Out, In}
 use Rattle.syntax.specs.declared.tree.Role.{Role}

@@ -6,9 +6,9 @@
 --   weight p       six bytes for each move, and the bytes that are left
 use Rattle.std.specs.Prelude.{ℕ, ◌+◌, ◌*◌, map, length, Result}
 use Rattle.words.specs.Stream.{bytes_in}
-use Rattle.syntax.specs.declared.fault.GrammarFault.{GrammarFault}
+use Rattle.grammar.specs.declared.fault.GrammarFault.{GrammarFault}
 use Rattle.syntax.specs.declared.parser.Parser.{Parser}
-use Rattle.syntax.specs.Rows.{row_items}
+use Rattle.grammar.specs.Rows.{row_items}
 use Rattle.syntax.specs.Trees.{Parts, declares}
 use Rattle.syntax.specs.Picks.{left}
 use Rattle.syntax.specs.Machine.{At, Progress, reading}

@@ -13,8 +13,8 @@ use Rattle.words.specs.declared.fault.Source.{Source}
 use Rattle.words.specs.Signs.{Sign}
 use Rattle.words.specs.Stream.{Stream, head_of, tail_of}
 use Rattle.words.specs.Reading.{rest}
-use Rattle.syntax.specs.declared.fault.GrammarFault.{GrammarFault}
-use Rattle.syntax.specs.declared.fault.GrammarFault.TheVariants as fault
+use Rattle.grammar.specs.declared.fault.GrammarFault.{GrammarFault}
+use Rattle.grammar.specs.declared.fault.GrammarFault.TheVariants as fault
 use Rattle.syntax.specs.declared.tree.Mark.{Mark}
 use Rattle.syntax.specs.declared.tree.Mark.TheVariants.{Out, In}
 use Rattle.syntax.specs.declared.tree.Role.TheVariants.{Exporting, Importing}

@@ -26,8 +26,8 @@ use Rattle.words.specs.declared.fault.WordFault.TheVariants.{NoWord}
 use Rattle.words.specs.Signs.{Sign, Word, size_of}
 use Rattle.words.specs.Signs as s
 use Rattle.words.specs.Stream.{Stream, stop, bad, word}
-use Rattle.syntax.specs.declared.fault.GrammarFault.{GrammarFault}
-use Rattle.syntax.specs.declared.fault.GrammarFault.TheVariants as fault
+use Rattle.grammar.specs.declared.fault.GrammarFault.{GrammarFault}
+use Rattle.grammar.specs.declared.fault.GrammarFault.TheVariants as fault
 
 abbrev pub key_code : Keyword → ℕ
 key_code k.Contract = 0

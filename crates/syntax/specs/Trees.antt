@@ -8,7 +8,7 @@
 --   Ranged p                   numbers are in range: at most 8 contracts, 16 messages and states; moves of declared states
 --   Once ns                    no name stands twice among ns
 --   Distinct p                 no name stands twice in its family: the contracts, and the messages and the states of each contract
-use Rattle.std.specs.Prelude.{◌≡◌, ℕ, ◌+◌, ◌<◌, ◌≤◌, List, [], ◌∷◌, ◌++◌, map, length, take, slice_index_or}
+use Rattle.std.specs.Prelude.{◌≡◌, ℕ, ◌+◌, ◌<◌, ◌≤◌, List, [], ◌∷◌, ◌++◌, map, length, slice_index_or}
 use Rattle.words.specs.declared.name.Ident.{Ident}
 use Rattle.syntax.specs.declared.tree.Mark.TheVariants.{Out}
 use Rattle.syntax.specs.declared.tree.Message.{Message}
@@ -16,7 +16,7 @@ use Rattle.syntax.specs.declared.tree.Move.{Move}
 use Rattle.syntax.specs.declared.tree.MoveEntry.{MoveEntry}
 use Rattle.syntax.specs.declared.tree.Head.{Head}
 use Rattle.syntax.specs.declared.tree.Tree.{Tree}
-use Rattle.syntax.specs.Rows.{row_items}
+use Rattle.grammar.specs.Rows.{row_items}
 
 pub record StateTree : Type 0 where
   pub ident : Ident
@@ -54,7 +54,7 @@ abbrev pub parts_of : List ContractTree → Parts
 parts_of cs = record { heads = map head_tree cs; moves = numbered move_entries 0 cs }
 
 abbrev pub declares : Head → HeadTree
-declares h = record { ident = h.ident; messages = take h.message_count h.messages; states = take h.state_count h.states }
+declares h = record { ident = h.ident; messages = row_items h.messages; states = row_items h.states }
 
 abbrev pub parts : Tree → Parts
 parts t = record { heads = map declares (row_items t.heads); moves = row_items t.moves }

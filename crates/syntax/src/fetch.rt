@@ -6,7 +6,7 @@ ghost use Rattle.syntax.specs.Table.{mark_code, refused, in_name};
 ghost use Rattle.syntax.specs.Picks.{in_mark, in_contract, in_contract_or_end, in_message, in_cargo, in_way, in_move, in_state, left, fetched, Moved, admitted};
 
 use crate::cargo::Cargo;
-use crate::fault::GrammarFault;
+use grammar::fault::GrammarFault;
 use crate::feed::Feed;
 use crate::tree::{Mark, Role};
 use words::fault::Span;

@@ -5,7 +5,7 @@ ghost use Rattle.std.specs.Prelude.{◌≡◌, ◌<◌, ◌≤◌, [], length, I
 ghost use Rattle.words.specs.declared.fault.Source.TheVariants as sources;
 ghost use Rattle.words.specs.Reading.{rest, source_of, too_large};
 ghost use Rattle.words.specs.Stream.{words_of, bytes_in};
-ghost use Rattle.syntax.specs.declared.fault.GrammarFault.TheVariants as faults;
+ghost use Rattle.grammar.specs.declared.fault.GrammarFault.TheVariants as faults;
 ghost use Rattle.syntax.specs.Trees.{parts_of, parts, Ranged};
 ghost use Rattle.syntax.specs.Laws.{Right, Exact, outcome};
 ghost use Rattle.syntax.specs.Table.{run};
@@ -13,14 +13,12 @@ ghost use Rattle.syntax.specs.Machine.{ask, start};
 
 mod cargo;
 mod family;
-pub mod fault;
 mod feed;
 mod fetch;
 mod parser;
-pub mod row;
 pub mod tree;
 
-use fault::GrammarFault;
+use grammar::fault::GrammarFault;
 use feed::Feed;
 use parser::Parser;
 use tree::Tree;

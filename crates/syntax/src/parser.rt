@@ -1,6 +1,6 @@
 // Reads a contract file by its grammar, from the left, one word at a time.
 ghost use Rattle.std.specs.Prelude.{◌≡◌, ◌+◌, ◌<◌, ◌≤◌, [], length, Ok, OnOk};
-ghost use Rattle.syntax.specs.Rows.{row_items};
+ghost use Rattle.grammar.specs.Rows.{row_items};
 ghost use Rattle.syntax.specs.Table.{Goes};
 ghost use Rattle.syntax.specs.Machine as q;
 ghost use Rattle.syntax.specs.Picks.{left};
@@ -9,9 +9,9 @@ ghost use Rattle.syntax.specs.Parsing.{progress, parts_in, reads, unread, weight
 
 use crate::cargo::Cargo;
 use crate::family::{has_contract, has_message, has_state};
-use crate::fault::GrammarFault;
+use grammar::fault::GrammarFault;
 use crate::feed::Feed;
-use crate::row::Row;
+use grammar::row::Row;
 use crate::tree::{Head, Mark, Message, Move, MoveEntry, Payload, Role, Tree};
 use words::name::{Ident, Name};
 use words::word::Mark as MarkWord;
@@ -50,10 +50,8 @@ impl<'a> Parser<'a> {
     {
         let head = Head {
             ident: NO_IDENT,
-            message_count: 0,
-            messages: [NO_MESSAGE; 16],
-            state_count: 0,
-            states: [NO_IDENT; 16],
+            messages: Row::new(NO_MESSAGE),
+            states: Row::new(NO_IDENT),
         };
         let step = Move {
             message: NO_IDENT,
@@ -334,10 +332,8 @@ impl<'a> Parser<'a> {
     {
         let head = Head {
             ident: self.ident,
-            message_count: self.messages.len(),
-            messages: self.messages.table(),
-            state_count: self.states.len(),
-            states: self.states.table(),
+            messages: self.messages,
+            states: self.states,
         };
         let _ = self.heads.push(head);
     }

@@ -1,7 +1,7 @@
 use Rattle.std.proofs.Common.{◌-◌, length, sym, ap, ◌∙◌, rules}
 use lib.ListN.{length-map}
 use Rattle.syntax.specs.Trees.{declares}
-use Rattle.syntax.specs.Rows.{row_items}
+use Rattle.grammar.specs.Rows.{row_items}
 use Rattle.syntax.specs.Parsing.{progress, unread}
 use Rattle.syntax.proofs.Parsers.{added, heavier}
 use Rattle.syntax.proofs.parser.Parser.add_move.Goals as goal

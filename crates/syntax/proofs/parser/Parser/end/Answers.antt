@@ -1,5 +1,5 @@
 use Rattle.std.proofs.Common.{rules}
-use Rattle.syntax.specs.Rows.{row_items}
+use Rattle.grammar.specs.Rows.{row_items}
 use Rattle.syntax.proofs.Parsers.{joined}
 use Rattle.syntax.proofs.parser.Parser.end.Goals as goal
 
