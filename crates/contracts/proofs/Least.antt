@@ -1,8 +1,11 @@
 -- The first number at which something holds, as a search finds it.
 --   weaker          what follows from either answer of a search
+--   found_some      a search that finds a thing if there is one decides whether there is
 --   found           what `find` over the numbers below n says, where each test of a number says one of two things
 --   first_found     the same of a property that holds of no number from n on
-use Rattle.std.proofs.Common.{◌≡◌, ℕ, ◌<◌, Bool, true, false, List, length, get_or, Some, None, Option, refl, sym, ◌∙◌, subst, zero-add, arith, MatchOption}
+use Rattle.std.proofs.Common.{◌≡◌, ℕ, ◌<◌, Bool, true, false, List, length, get_or, Some, None, Option, refl, sym, ◌∙◌, subst, zero-add, arith, Decides, MatchOption}
+use Rattle.std.specs.Option.{is_some}
+use Rattle.std.proofs.lemmas.Bool.{false≢true}
 use Rattle.std.proofs.lemmas.Iterator.{YieldsList-from_range, first_from_find}
 use Rattle.std.proofs.lemmas.List.FromFn.{length-range_with_len, get_or-range_with_len}
 use Rattle.std.proofs.iter.Yields.{nat_range_steps}
@@ -18,6 +21,11 @@ use Rattle.contracts.specs.Rules.{First, Never}
 pub weaker : {T P P' : Type 0} {Q Q' : T → Type 0} (r : Option T) → MatchOption r P Q → (P → P') → ((x : T) → Q x → Q' x) → MatchOption r P' Q'
 weaker None h f g = f h
 weaker (Some x) h f g = g x h
+
+-- a search that finds a thing if there is one decides whether there is
+pub found_some : {T P : Type 0} (r : Option T) → MatchOption r (P → ⊥) (λ x. P) → Decides (is_some r) P
+found_some None h = (λ e. absurd (false≢true e), λ p. absurd (h p))
+found_some (Some x) h = (λ e. h, λ p. refl)
 
 -- the number i stands at place i
 at_place : (n i d : ℕ) → i < n → get_or (range_with_len 0 n) i d ≡ i

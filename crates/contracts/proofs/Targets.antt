@@ -1,5 +1,5 @@
 -- What a move's numbers are below.
-use Rattle.std.proofs.Common.{◌≡◌, ℕ, suc, ◌<◌, true, false, ◌⊎◌, replicate, Option, refl, inl, inr, arith}
+use Rattle.std.proofs.Common.{◌≡◌, ℕ, suc, ◌<◌, true, false, replicate, Option, refl, arith}
 use Rattle.contracts.specs.declared.table.Table.{Table}
 use Rattle.std.proofs.lemmas.List.{get_or-replicate}
 use Rattle.contracts.specs.Moves.{Goes}
@@ -27,11 +27,6 @@ short t w acyclic (step {s = s} {t = v} {n = n} e p) =
   where
     within : {x k : ℕ} → Path (Along t w) s x k → x < 16
     within q = kept_in (Along t w) (λ x. x < 16) (λ a b h f. target_below t a f.0 b f.2) q (source_below t s e.0 v e.2)
-
--- a path with a move starts at one of the states
-pub starts : (t : Table) (w : Option Mark) → {s u n : ℕ} → Path (Along t w) s u n → (n ≡ 0) ⊎ (s < 16)
-starts t w stay = inl refl
-starts t w (step {s = s} {t = v} e p) = inr (source_below t s e.0 v e.2)
 
 -- a state from which a move leads is declared
 pub moves_below : (t : Table) (w : Option Mark) → {s u n : ℕ} → Path (Along t w) s u (suc n) → s < states t
