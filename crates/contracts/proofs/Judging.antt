@@ -15,7 +15,7 @@ use Rattle.contracts.specs.declared.declaration.Declaration.{Declaration}
 use Rattle.contracts.specs.declared.declaration.Written.{Written}
 use Rattle.contracts.specs.declared.table.Table.{Table}
 use Rattle.contracts.specs.Names.{as_parts, head_at}
-use Rattle.contracts.specs.Numbers.{Numbers}
+use Rattle.contracts.specs.Numbers.{messages_in, Numbers, states_in}
 use Rattle.contracts.specs.Written.{Resolved}
 use Rattle.contracts.specs.Tables.{table_at, messages, states}
 use Rattle.contracts.specs.Acceptance.{Breaks, Tabled}
@@ -50,10 +50,10 @@ module _ (p : Parts) (ds : List Declaration) (ws : List Written) (n : Numbers p 
     of_contract = omega (arith, own, n.declared.count)
 
     of_state : (s : ℕ) → s < states (table_at tables k) → s < length (head_at p.heads k).states
-    of_state s h = omega (arith, h, ap (λ d. d.state_count) (t.each k l).declaration, (n.declared.each k own).state_count)
+    of_state s h = omega (arith, h, ap (λ d. length (states_in d)) (t.each k l).declaration, (n.declared.each k own).state_count)
 
     of_message : (m : ℕ) → m < messages (table_at tables k) → m < length (head_at p.heads k).messages
-    of_message m h = omega (arith, h, ap (λ d. d.message_count) (t.each k l).declaration, (n.declared.each k own).message_count)
+    of_message m h = omega (arith, h, ap (λ d. length (messages_in d)) (t.each k l).declaration, (n.declared.each k own).message_count)
 
   pub within : (rule : Broken) → Breaks ds ws rule → Within p rule
   within (b.WrongMark i) h = of_move i h.0.0

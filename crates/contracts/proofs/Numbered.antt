@@ -41,13 +41,6 @@ heads_missing hs k d l h = (k, simp length-map l, head_declares (λ x. MessagesM
 pub sized : (p : Parts) → Ranged p → Sized p.heads
 sized p r = record { contracts = r.contracts; messages = r.messages; states = r.states }
 
--- the counts of contract k, as the code reads it
-pub few_messages : (hs : List Head) (k : ℕ) → Sized (map declares hs) → length (declares (get_or hs k blank)).messages ≤ 16
-few_messages hs k z = subst (λ (h : HeadTree). length h.messages ≤ 16) (head_at_lem hs k) (z.messages k)
-
-pub few_states : (hs : List Head) (k : ℕ) → Sized (map declares hs) → length (declares (get_or hs k blank)).states ≤ 16
-few_states hs k z = subst (λ (h : HeadTree). length h.states ≤ 16) (head_at_lem hs k) (z.states k)
-
 -- each move is of a contract that the code reads
 pub owned : (hs : List Head) (es : List MoveEntry) → Ranged (as_parts hs es) → (i : ℕ) → i < length es → (get_or es i no_move).contract < length hs
 owned hs es r i l = simp length-map at (r.owners i l).0

@@ -12,7 +12,7 @@ fn is_wrong(declarations: &[Declaration], moves: &[Written], i: usize) -> bool
     ensures { Decides result (WrongMark declarations.now moves.now i) }
 {
     let w = &moves[i];
-    w.mark != declarations[w.contract].messages[w.message].mark
+    w.mark != declarations[w.contract].messages.as_slice()[w.message].mark
 }
 
 /// The first move with another mark than its message.

@@ -13,7 +13,7 @@ fn first_unreached(t: &Table) -> Option<usize>
     ensures { MatchOption result (Reachable t.now) (First (Unreached t.now)) }
 {
     let seen = after(t, None, 0);
-    (0..t.declaration.state_count).find(|&s| s != 0 && !seen[s])
+    (0..t.states().len()).find(|&s| s != 0 && !seen[s])
 }
 
 /// Every state can be reached from state 0.
@@ -41,7 +41,7 @@ fn cycling(t: &Table, s: usize) -> bool
 fn first_cycling(t: &Table) -> Option<usize>
     ensures { MatchOption result (Synchronising t.now) (First (Cycling t.now)) }
 {
-    (0..t.declaration.state_count).find(|&s| cycling(t, s))
+    (0..t.states().len()).find(|&s| cycling(t, s))
 }
 
 /// No state lies on a one-way cycle.

@@ -24,7 +24,7 @@ pub(crate) fn sent_mark(role: Role) -> Mark
 fn send_state(tables: &[Table], role: Role, c: usize, s: usize) -> bool
     ensures { Decides result (SendState tables.now role c s) }
 {
-    tables.get(c).is_some_and(|t| s < t.declaration.state_count && may_send(t, sent_mark(role), s))
+    tables.get(c).is_some_and(|t| s < t.states().len() && may_send(t, sent_mark(role), s))
 }
 
 // May this be carried: an end only in a state in which it may send?
@@ -46,7 +46,9 @@ fn sendable(tables: &[Table], p: Payload) -> bool
 fn first_silent_end(tables: &[Table], t: &Table) -> Option<usize>
     ensures { MatchOption result (Lawful tables.now t.now) (First (SilentEnd tables.now t.now)) }
 {
-    (0..t.declaration.message_count).find(|&m| !sendable(tables, t.message(m).payload))
+    t.messages()
+        .iter()
+        .position(|message| !sendable(tables, message.payload))
 }
 
 /// An end that a message carries may send in the state that is declared.

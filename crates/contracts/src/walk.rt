@@ -25,10 +25,10 @@ pub(crate) fn find_move<F: Fn(usize, usize) -> bool>(
         (λ v. Along t.now w v.0 v.1 × (v.0 < 16) × (v.1 < 16) × F.post test v.0 v.1 true) }
 {
     for s in 0..16 {
-        for m in 0..16 {
+        for (m, message) in t.messages().iter().enumerate() {
             if let Some(to) = t.target(s, m) {
                 let u = to as usize;
-                if among(w, t.message(m).mark) && test(s, u) {
+                if among(w, message.mark) && test(s, u) {
                     return Some((s, u));
                 }
             }

@@ -1,5 +1,6 @@
 // From declarations and moves to an accepted set, or the first rule that is broken.
-ghost use Rattle.std.specs.Prelude.{◌≡◌, ◌<◌, ◌≤◌, length, take, MatchResult};
+ghost use Rattle.std.specs.Prelude.{◌≡◌, ◌<◌, ◌≤◌, length, MatchResult};
+ghost use Rattle.grammar.specs.Rows.{row_items};
 ghost use Rattle.contracts.specs.Acceptance.{Accepted, Breaks, BreaksTable, Each, Gathered, tables_of};
 ghost use Rattle.contracts.specs.Rules.{Positional, Ruled};
 ghost use Rattle.contracts.specs.Tables.{states};
@@ -16,19 +17,18 @@ use crate::states::{AllReachable, AllSynchronising};
 use crate::table::Table;
 use crate::tabulate::tabulate_all;
 use crate::transfers::AllLawful;
+use grammar::row::Row;
 
 // The contracts with these tables.
-fn build(tables: &[Table]) -> [Contract; 8]
+fn build(tables: &[Table]) -> Row<Contract, 8>
     requires some { 0 < length tables.now }
     requires few { length tables.now ≤ 8 }
     requires ruled { Each Ruled tables.now }
-    ensures full { length result ≡ 8 }
-    ensures tables { tables_of (take (length tables.now) result) ≡ tables.now }
+    ensures { tables_of (row_items result) ≡ tables.now }
 {
-    let mut contracts = [Contract::new(tables[0]); 8];
-    for k in 0..tables.len() {
-        let made = Contract::new(tables[k]);
-        contracts[k] = made;
+    let mut contracts = Row::new(Contract::new(tables[0]));
+    for table in tables {
+        let _ = contracts.push(Contract::new(*table));
     }
     contracts
 }
@@ -51,10 +51,8 @@ fn gather(tables: &[Table]) -> Result<ContractSet, Broken>
     if let Some((k, m)) = earliest(&AllLawful, tables) {
         return Err(Broken::SilentEnd(k, m));
     }
-    let contracts = build(tables);
     Ok(ContractSet {
-        count: tables.len(),
-        contracts,
+        contracts: build(tables),
     })
 }
 
@@ -74,6 +72,5 @@ pub(crate) fn accept(declarations: &[Declaration], moves: &[Written]) -> Result<
     if let Some(i) = first_mixed_marks(moves) {
         return Err(Broken::MixedMarks(i));
     }
-    let tables = tabulate_all(declarations, moves);
-    gather(&tables[..declarations.len()])
+    gather(tabulate_all(declarations, moves).as_slice())
 }

@@ -1,4 +1,4 @@
-use Rattle.std.proofs.Common.{◌<◌, ◌≤◌, map, length, sym, subst, arith}
+use Rattle.std.proofs.Common.{◌<◌, ◌≤◌, map, length, subst, arith}
 use Rattle.std.proofs.lemmas.List.{length-map, get_or_read}
 use Rattle.std.proofs.lemmas.Result.{err_from_is_err_and}
 use Rattle.grammar.specs.Rows.{row_items}
@@ -7,17 +7,8 @@ use Rattle.syntax.specs.Trees.{declares}
 use Rattle.contracts.specs.Names.{head_at, MessagesMissing}
 use Rattle.contracts.specs.Numbers.{DeclaredAs, undeclared}
 use Rattle.contracts.proofs.Lookups.{blank}
-use Rattle.contracts.proofs.Numbered.{few_messages, few_states, head_declares, heads_missing, pushed}
+use Rattle.contracts.proofs.Numbered.{head_declares, heads_missing, pushed}
 use Rattle.contracts.proofs.declared.declarations.Goals as goal
-
-pub declaration-requires : goal.declaration-requires
-declaration-requires c =
-    let here = sym (get_or_read c.args.heads.now c.loop-head.head-index _ c.loop-head-test.true c.head-item.is blank) in
-    record {
-      sized = c.requires;
-      messages = subst (λ (h : Head). length (row_items h.messages) ≤ 16) here (few_messages c.args.heads.now c.loop-head.head-index c.requires);
-      states = subst (λ (h : Head). length (row_items h.states) ≤ 16) here (few_states c.args.heads.now c.loop-head.head-index c.requires);
-    }
 
 pub returns-in_err-next : goal.returns-in_err-next
 returns-in_err-next c =
