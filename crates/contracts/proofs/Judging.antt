@@ -1,29 +1,21 @@
 -- From a file by numbers to its judgement.
---   same_parts     the parts that the code reads are those of the tree
 --   numbers-at     numbers, as the code reads them
 --   resolved       a file by numbers is one that rules 9 to 14 can be tried on
 --   within         what breaks a rule is a part of the file
-use Rattle.std.proofs.Common.{◌≡◌, ℕ, ◌<◌, List, length, refl, ap, arith}
-use Rattle.syntax.specs.declared.tree.Head.{Head}
-use Rattle.syntax.specs.declared.tree.MoveEntry.{MoveEntry}
-use Rattle.syntax.specs.declared.tree.Tree.{Tree}
-use Rattle.grammar.specs.Rows.{row_items}
-use Rattle.syntax.specs.Trees.{Parts, parts, Ranged}
+use Rattle.std.proofs.Common.{◌≡◌, ℕ, ◌<◌, List, length, ap, arith}
+use Rattle.syntax.specs.Trees.{Parts, Ranged}
 use Rattle.contracts.specs.declared.broken.Broken.{Broken}
 use Rattle.contracts.specs.declared.broken.Broken.TheVariants as b
 use Rattle.contracts.specs.declared.declaration.Declaration.{Declaration}
 use Rattle.contracts.specs.declared.declaration.Written.{Written}
 use Rattle.contracts.specs.declared.table.Table.{Table}
-use Rattle.contracts.specs.Names.{as_parts, head_at}
+use Rattle.contracts.specs.Names.{head_at}
 use Rattle.contracts.specs.Numbers.{messages_in, Numbers, states_in}
 use Rattle.contracts.specs.Written.{Resolved}
 use Rattle.contracts.specs.Tables.{table_at, messages, states}
 use Rattle.contracts.specs.Acceptance.{Breaks, Tabled}
 use Rattle.contracts.specs.Judgement.{Inhabited, Within}
 use Rattle.contracts.proofs.Ranges.{few-contracts, few_messages, few_states, proper}
-
-pub same_parts : (t : Tree) (hs : List Head) (es : List MoveEntry) → hs ≡ row_items t.heads → es ≡ row_items t.moves → as_parts hs es ≡ parts t
-same_parts t hs es e f = rw (e, f) refl
 
 pub numbers-at : (p : Parts) (ds ds' : List Declaration) (ws ws' : List Written) → ds' ≡ ds → ws' ≡ ws → Numbers p ds ws → Numbers p ds' ws'
 numbers-at p ds ds' ws ws' e f n = rw (e, f) n

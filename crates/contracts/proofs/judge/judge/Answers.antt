@@ -1,8 +1,8 @@
-use Rattle.std.proofs.Common.{sym, ap, ◌∙◌, subst}
-use Rattle.syntax.specs.Trees.{parts, Parts}
+use Rattle.std.proofs.Common.{ap}
+use Rattle.syntax.specs.Trees.{parts}
 use Rattle.contracts.specs.declared.fault.RuleFault.TheVariants as f
-use Rattle.contracts.specs.Judgement.{undeclared, broken, fault_from, Within}
-use Rattle.contracts.proofs.Judging.{same_parts, numbers-at, resolved, within}
+use Rattle.contracts.specs.Judgement.{undeclared, broken}
+use Rattle.contracts.proofs.Judging.{numbers-at, resolved, within}
 use Rattle.contracts.proofs.judge.judge.Goals as goal
 
 pub returns-in-Err : goal.returns-in-Err
@@ -16,14 +16,12 @@ accept-requires c =
 
 pub fault_of-requires : goal.fault_of-requires
 fault_of-requires c =
-    subst (λ (q : Parts). Within q c.in-Err-accept.broken) (sym (same_parts c.args.tree.now _ _ c.heads.ensures c.moves.ensures))
-    (within (parts c.args.tree.now) c.as_slice.result.now c.as_slice-2.result.now
+    within (parts c.args.tree.now) c.as_slice.result.now c.as_slice-2.result.now
     (numbers-at (parts c.args.tree.now) _ c.as_slice.result.now _ c.as_slice-2.result.now c.as_slice.ensures c.as_slice-2.ensures c.in-Ok.ensures)
-    c.in-Err-accept.broken c.in-Err-accept.ensures)
+    c.in-Err-accept.broken c.in-Err-accept.ensures
 
 pub returns-in-Err-accept : goal.returns-in-Err-accept
 returns-in-Err-accept c =
     broken c.as_slice.result.now c.as_slice-2.result.now c.in-Err-accept.broken
     (numbers-at (parts c.args.tree.now) _ c.as_slice.result.now _ c.as_slice-2.result.now c.as_slice.ensures c.as_slice-2.ensures c.in-Ok.ensures)
-    c.in-Err-accept.ensures
-    (c.fault_of.ensures ∙ ap (λ q. fault_from q c.in-Err-accept.broken) (same_parts c.args.tree.now _ _ c.heads.ensures c.moves.ensures))
+    c.in-Err-accept.ensures c.fault_of.ensures
