@@ -5,6 +5,7 @@ ghost use Rattle.contracts.specs.Judgement.{fault_from, Inhabited, Judged, messa
 ghost use Rattle.contracts.specs.Names.{head_at};
 
 use crate::broken::Broken;
+use crate::by_numbers::ByNumbers;
 use crate::fault::RuleFault;
 use crate::resolve::resolve;
 use crate::set::ContractSet;
@@ -75,7 +76,11 @@ pub(crate) fn judge(tree: &Tree) -> Result<ContractSet, RuleFault>
         Ok(numbered) => numbered,
         Err(ident) => return Err(RuleFault::Undeclared(span_of(ident))),
     };
-    match accept(numbered.declarations.as_slice(), numbered.moves.as_slice()) {
+    let file = ByNumbers {
+        declarations: numbered.declarations.as_slice(),
+        moves: numbered.moves.as_slice(),
+    };
+    match accept(&file) {
         Ok(set) => Ok(set),
         Err(broken) => Err(fault_of(tree, broken)),
     }

@@ -1,26 +1,25 @@
 // The rules on moves as they are written: their marks, and one for each state and message.
 ghost use Rattle.std.specs.Prelude.{◌<◌, length, Decides, MatchOption};
 ghost use Rattle.contracts.specs.Rules.{First, Never};
-ghost use Rattle.contracts.specs.Written.{MixedMarks, Resolved, SameState, SecondMove, WrongMark};
+ghost use Rattle.contracts.specs.Written.{MixedMarks, SameState, SecondMove, WrongMark};
 
-use crate::declaration::{Declaration, Written};
+use crate::by_numbers::ByNumbers;
+use crate::declaration::Written;
 
 // Has the move `i` another mark than its message?
-fn is_wrong(declarations: &[Declaration], moves: &[Written], i: usize) -> bool
-    requires resolved { Resolved declarations.now moves.now }
-    requires within { i < length moves.now }
-    ensures { Decides result (WrongMark declarations.now moves.now i) }
+fn is_wrong(file: &ByNumbers, i: usize) -> bool
+    requires { i < length file.now.moves.now }
+    ensures { Decides result (WrongMark file.now.declarations.now file.now.moves.now i) }
 {
-    let w = &moves[i];
-    w.mark != declarations[w.contract].messages.as_slice()[w.message].mark
+    let w = &file.moves[i];
+    w.mark != file.declarations[w.contract].messages.as_slice()[w.message].mark
 }
 
 /// The first move with another mark than its message.
-pub(crate) fn first_wrong_mark(declarations: &[Declaration], moves: &[Written]) -> Option<usize>
-    requires { Resolved declarations.now moves.now }
-    ensures { MatchOption result (Never (WrongMark declarations.now moves.now)) (First (WrongMark declarations.now moves.now)) }
+pub(crate) fn first_wrong_mark(file: &ByNumbers) -> Option<usize>
+    ensures { MatchOption result (Never (WrongMark file.now.declarations.now file.now.moves.now)) (First (WrongMark file.now.declarations.now file.now.moves.now)) }
 {
-    (0..moves.len()).find(|&i| is_wrong(declarations, moves, i))
+    (0..file.moves.len()).find(|&i| is_wrong(file, i))
 }
 
 // Are the two moves of one state?

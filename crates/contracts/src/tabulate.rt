@@ -5,9 +5,10 @@ ghost use Rattle.contracts.specs.Acceptance.{Tabled};
 ghost use Rattle.contracts.specs.Moves.{Goes};
 ghost use Rattle.contracts.specs.Numbers.{written_at};
 ghost use Rattle.contracts.specs.Rules.{Never};
-ghost use Rattle.contracts.specs.Written.{Holds, Listed, Resolved, SecondMove};
+ghost use Rattle.contracts.specs.Written.{Holds, Listed, SecondMove};
 
-use crate::declaration::{Declaration, Written};
+use crate::by_numbers::ByNumbers;
+use crate::declaration::Written;
 use crate::table::Table;
 use grammar::row::Row;
 
@@ -28,27 +29,25 @@ fn fill(moves: &[Written], c: usize) -> [[Option<u8>; 16]; 16]
 }
 
 // The table of contract `c`.
-fn tabulate(declarations: &[Declaration], moves: &[Written], c: usize) -> Table
-    requires within { c < length declarations.now }
-    requires resolved { Resolved declarations.now moves.now }
-    requires once { Never (SecondMove moves.now) }
-    ensures { Holds result declarations.now moves.now c }
+fn tabulate(file: &ByNumbers, c: usize) -> Table
+    requires within { c < length file.now.declarations.now }
+    requires once { Never (SecondMove file.now.moves.now) }
+    ensures { Holds result file.now.declarations.now file.now.moves.now c }
 {
     Table {
-        declaration: declarations[c],
-        moves: fill(moves, c),
+        declaration: file.declarations[c],
+        moves: fill(file.moves, c),
     }
 }
 
 /// The tables of all contracts, first to last.
-pub(crate) fn tabulate_all(declarations: &[Declaration], moves: &[Written]) -> Row<Table, 8>
-    requires resolved { Resolved declarations.now moves.now }
-    requires once { Never (SecondMove moves.now) }
-    ensures { Tabled declarations.now moves.now (row_items result) }
+pub(crate) fn tabulate_all(file: &ByNumbers) -> Row<Table, 8>
+    requires { Never (SecondMove file.now.moves.now) }
+    ensures { Tabled file.now.declarations.now file.now.moves.now (row_items result) }
 {
-    let mut tables = Row::new(tabulate(declarations, moves, 0));
-    for c in 0..declarations.len() {
-        let _ = tables.push(tabulate(declarations, moves, c));
+    let mut tables = Row::new(tabulate(file, 0));
+    for c in 0..file.declarations.len() {
+        let _ = tables.push(tabulate(file, c));
     }
     tables
 }

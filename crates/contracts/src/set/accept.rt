@@ -5,12 +5,11 @@ ghost use Rattle.contracts.specs.Acceptance.{Accepted, Breaks, BreaksTable, Each
 ghost use Rattle.contracts.specs.Rules.{Positional, Ruled};
 ghost use Rattle.contracts.specs.Tables.{states};
 ghost use Rattle.contracts.specs.View.{tables_in};
-ghost use Rattle.contracts.specs.Written.{Resolved};
 
 use super::ContractSet;
 use crate::broken::Broken;
+use crate::by_numbers::ByNumbers;
 use crate::contract::Contract;
-use crate::declaration::{Declaration, Written};
 use crate::marks::{first_mixed_marks, first_second_move, first_wrong_mark};
 use crate::rule::earliest;
 use crate::states::{AllReachable, AllSynchronising};
@@ -58,19 +57,18 @@ fn gather(tables: &[Table]) -> Result<ContractSet, Broken>
 
 /// The set of what is written, or the first rule from 9 to 14 that is broken, at the first move, state or message in the
 /// order of the text. Each rule is tried over all contracts before the next.
-pub(crate) fn accept(declarations: &[Declaration], moves: &[Written]) -> Result<ContractSet, Broken>
-    requires { Resolved declarations.now moves.now }
-    ensures { MatchResult result (λ set. Accepted declarations.now moves.now (tables_in set))
-        (Breaks declarations.now moves.now) }
+pub(crate) fn accept(file: &ByNumbers) -> Result<ContractSet, Broken>
+    ensures { MatchResult result (λ set. Accepted file.now.declarations.now file.now.moves.now (tables_in set))
+        (Breaks file.now.declarations.now file.now.moves.now) }
 {
-    if let Some(i) = first_wrong_mark(declarations, moves) {
+    if let Some(i) = first_wrong_mark(file) {
         return Err(Broken::WrongMark(i));
     }
-    if let Some(i) = first_second_move(moves) {
+    if let Some(i) = first_second_move(file.moves) {
         return Err(Broken::SecondMove(i));
     }
-    if let Some(i) = first_mixed_marks(moves) {
+    if let Some(i) = first_mixed_marks(file.moves) {
         return Err(Broken::MixedMarks(i));
     }
-    gather(tabulate_all(declarations, moves).as_slice())
+    gather(tabulate_all(file).as_slice())
 }

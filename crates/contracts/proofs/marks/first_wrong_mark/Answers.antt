@@ -4,4 +4,4 @@ use Rattle.contracts.proofs.Least.{first_found}
 use Rattle.contracts.proofs.marks.first_wrong_mark.Goals as goal
 
 pub returns : goal.returns
-returns c = first_found (length c.args.moves.now) (WrongMark c.args.declarations.now c.args.moves.now) (λ i h. h.0) _ _ _ c.find.ensures.ran (λ x q k. search (rules, tests)) (λ x q k. search (rules, tests))
+returns c = first_found (length c.args.file.now.moves.now) (WrongMark c.args.file.now.declarations.now c.args.file.now.moves.now) (λ i h. h.0) _ _ _ c.find.ensures.ran (λ x q k. search (rules, tests)) (λ x q k. search (rules, tests))

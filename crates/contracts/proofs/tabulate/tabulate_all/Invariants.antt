@@ -5,4 +5,4 @@ use Rattle.contracts.proofs.Numbered.{EachBelow}
 use Rattle.contracts.proofs.tabulate.tabulate_all.Given as goal
 
 abbrev pub invariant-loop-c : goal.invariant-loop-c
-invariant-loop-c l = EachBelow (λ k t. Holds t l.declarations l.moves k) blank (row_items l.tables) l.c
+invariant-loop-c l = EachBelow (λ k t. Holds t l.file.declarations.now l.file.moves.now k) blank (row_items l.tables) l.c
