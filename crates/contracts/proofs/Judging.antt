@@ -2,7 +2,9 @@
 --   numbers-at     numbers, as the code reads them
 --   resolved       a file by numbers is one that rules 9 to 14 can be tried on
 --   within         what breaks a rule is a part of the file
-use Rattle.std.proofs.Common.{◌≡◌, ℕ, ◌<◌, List, length, ap, arith}
+--   mapped         what holds of either result of a call holds of it with another error
+use Rattle.std.proofs.Common.{◌≡◌, ℕ, ◌<◌, List, length, ap, arith, Ok, Err, Result, sym, subst, MatchResult}
+use Rattle.std.specs.Result.{IsErrAnd}
 use Rattle.syntax.specs.Trees.{Parts, Ranged}
 use Rattle.contracts.specs.declared.broken.Broken.{Broken}
 use Rattle.contracts.specs.declared.broken.Broken.TheVariants as b
@@ -54,3 +56,20 @@ module _ (p : Parts) (ds : List Declaration) (ws : List Written) (n : Numbers p 
   within (b.Unreachable k s) h = let e = h.1.2 in (of_contract h.1.0 h.1.1 k e.0, of_state h.1.0 h.1.1 k e.0 s e.1.0.0)
   within (b.OneWayCycle k s) h = let e = h.1.2.1 in (of_contract h.1.0 h.1.1 k e.0, of_state h.1.0 h.1.1 k e.0 s e.1.0.0)
   within (b.SilentEnd k m) h = let e = h.1.2.2 in (of_contract h.1.0 h.1.1 k e.0, of_message h.1.0 h.1.1 k e.0 m e.1.0.0)
+
+-- what holds of either result of a call holds of it with another error in the place of its own
+pub mapped : {A B C : Type 0} (r : Result A B) (s : Result A C) (P : A → Type 0) (Q : B → Type 0) (T : B → C → Type 0) (J : Result A C → Type 0)
+    → MatchResult r (λ x. s ≡ Ok x) (λ e. IsErrAnd s (T e)) → MatchResult r P Q → ((x : A) → P x → J (Ok x)) → ((e : B) (f : C) → Q e → T e f → J (Err f)) → J s
+mapped (Ok x) s P Q T J h p kept changed = subst J (sym h) (kept x p)
+mapped (Err e) (Ok y) P Q T J h p kept changed = absurd h
+mapped (Err e) (Err f) P Q T J h p kept changed = changed e f p h
+
+-- the same, where the result is known: its value is the call's, and its error comes of one of the call's
+pub mapped_ok : {A B : Type 0} (C : Type 0) (r : Result A B) (x : A) (P : A → Type 0) (Q : B → Type 0) → MatchResult r (λ y. ◌≡◌ {A = Result A C} (Ok x) (Ok y)) (λ e. ⊥) → MatchResult r P Q → P x
+mapped_ok C (Ok y) x P Q h p = let e : y ≡ x = cc in subst P e p
+mapped_ok C (Err e) x P Q h p = absurd h
+
+pub mapped_err : {A B C : Type 0} (r : Result A B) (f : C) (P : A → Type 0) (Q T : B → Type 0) (J : Type 0)
+    → MatchResult r (λ x. ◌≡◌ {A = Result A C} (Err f) (Ok x)) T → MatchResult r P Q → ((e : B) → Q e → T e → J) → J
+mapped_err (Ok x) f P Q T J h p changed = let z : ◌≡◌ {A = ℕ} 0 1 = cc in absurd (omega arith)
+mapped_err (Err e) f P Q T J h p changed = changed e p h

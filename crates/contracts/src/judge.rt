@@ -72,16 +72,10 @@ pub(crate) fn judge(tree: &Tree) -> Result<ContractSet, RuleFault>
     requires inhabited { Inhabited (parts tree.now) }
     ensures { Judged (parts tree.now) result }
 {
-    let numbered = match resolve(tree) {
-        Ok(numbered) => numbered,
-        Err(ident) => return Err(RuleFault::Undeclared(span_of(ident))),
-    };
+    let numbered = resolve(tree).map_err(|ident| RuleFault::Undeclared(span_of(ident)))?;
     let file = ByNumbers {
         declarations: numbered.declarations.as_slice(),
         moves: numbered.moves.as_slice(),
     };
-    match accept(&file) {
-        Ok(set) => Ok(set),
-        Err(broken) => Err(fault_of(tree, broken)),
-    }
+    accept(&file).map_err(|broken| fault_of(tree, broken))
 }

@@ -20,6 +20,7 @@ pub(crate) struct Numbered {
     pub(crate) moves: Row<Written, 682>,
 }
 
+// What stands in the unused places of a row.
 const NO_MOVE: Written = Written {
     contract: 0,
     state: 0,

@@ -46,6 +46,7 @@ pub(crate) fn tabulate_all(file: &ByNumbers) -> Row<Table, 8>
     ensures { Tabled file.now.declarations.now file.now.moves.now (row_items result) }
 {
     let mut tables = Row::new(tabulate(file, 0));
+    // By number: a table is made of a contract's number.
     for c in 0..file.declarations.len() {
         let _ = tables.push(tabulate(file, c));
     }

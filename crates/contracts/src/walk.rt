@@ -24,6 +24,7 @@ pub(crate) fn find_move<F: Fn(usize, usize) -> bool>(
         ((s u : ℕ) → Along t.now w s u → F.post test s u false)
         (λ v. Along t.now w v.0 v.1 × (v.0 < 16) × (v.1 < 16) × F.post test v.0 v.1 true) }
 {
+    // By number: the answer names the states.
     for s in 0..16 {
         for (m, message) in t.messages().iter().enumerate() {
             if let Some(to) = t.target(s, m) {
