@@ -1,6 +1,6 @@
 -- Contracts gathered one by one, and what a fault of their tables says of what is written.
-use Rattle.std.proofs.Common.{◌≡◌, ℕ, ◌+◌, ◌<◌, List, [], ◌∷◌, ◌++◌, length, get_or, take, set, Ok, Err, Result, sym, ap, ◌∙◌, subst, ap₂, MatchResult}
-use Rattle.std.proofs.lemmas.List.{get_or_read, take_more, take_more_set, map-append}
+use Rattle.std.proofs.Common.{◌≡◌, ℕ, ◌+◌, ◌<◌, ◌≤◌, List, [], ◌∷◌, ◌++◌, length, get_or, take, Ok, Err, Result, sym, ap, ◌∙◌, subst, ap₂, arith, length-take, MatchResult}
+use Rattle.std.proofs.lemmas.List.{get_or_read, length-map, take_more, map-append}
 use Rattle.contracts.specs.declared.broken.Broken.{Broken}
 use Rattle.contracts.specs.declared.broken.Broken.TheVariants as b
 use Rattle.contracts.specs.declared.contract.Contract.{Contract}
@@ -13,12 +13,16 @@ use Rattle.contracts.specs.Tables.{blank}
 use Rattle.contracts.specs.View.{tables_in}
 
 -- one contract more has one table more
-pub gathered-more : (ks : List Contract) (k : Contract) (ts : List Table) (i : ℕ) (t : Table) → i < length ks → i < length ts → t ≡ get_or ts i t
-    → tables_of (take i ks) ≡ take i ts → k.table ≡ t → tables_of (take (i + 1) (set ks i k)) ≡ take (i + 1) ts
-gathered-more ks k ts i t l m read so_far new =
-    ap tables_of (take_more_set ks i k l) ∙ map-append (λ (k : Contract). k.table) (take i ks) (k ∷ [])
+pub gathered-more : (ks ks' : List Contract) (k : Contract) (ts : List Table) (i : ℕ) (t : Table) → i < length ts → t ≡ get_or ts i t
+    → tables_of ks ≡ take i ts → ks' ≡ ks ++ k ∷ [] → k.table ≡ t → tables_of ks' ≡ take (i + 1) ts
+gathered-more ks ks' k ts i t m read so_far more new =
+    ap tables_of more ∙ map-append (λ (k : Contract). k.table) ks (k ∷ [])
     ∙ ap₂ (λ (xs : List Table) (x : Table). xs ++ x ∷ []) so_far (new ∙ get_or_read ts i t m read blank)
     ∙ sym (take_more ts i blank m)
+
+-- as many contracts as tables
+pub gathered-length : (ks : List Contract) (ts : List Table) (i : ℕ) → tables_of ks ≡ take i ts → length ks ≤ i
+gathered-length ks ts i e = let l : length (tables_of ks) ≤ i = simp (e, length-take) (omega arith) in simp length-map at l
 
 module _ (ds : List Declaration) (ws : List Written) (marked : Marked ds ws) (ts : List Table) (tabled : Tabled ds ws ts) where
   -- a rule that the tables break is broken by what is written

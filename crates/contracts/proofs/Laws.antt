@@ -5,6 +5,7 @@ use mathlib.Core.Logic.{∥∥₁_elim, ∥∥₁_map}
 use Rattle.contracts.specs.declared.declaration.Payload.{Payload}
 use Rattle.contracts.specs.declared.set.ContractSet.{ContractSet}
 use Rattle.contracts.specs.declared.table.Table.{Table}
+use Rattle.grammar.specs.Rows.{row_items}
 use Rattle.contracts.specs.Acceptance.{Each}
 use Rattle.contracts.specs.Laws.{Ranged, SendStates, Together}
 use Rattle.contracts.specs.Rules.{Ruled}
@@ -23,7 +24,7 @@ entry (x ∷ xs) (suc k) l = entry xs k (omega arith)
 -- each contract keeps the rules on its own states
 pub each-ruled : (set : ContractSet) → Each Ruled (tables_in set)
 each-ruled set k l =
-    let (x, read) = entry set.contracts k (omega (arith, count_is set, set.few, set.full)) in
+    let (x, read) = entry (row_items set.contracts) k (omega (arith, count_is set)) in
     subst Ruled (table_is set k x l read)
     (record { inhabited = x.inhabited; positional = x.positional; reachable = x.reachable; synchronising = x.synchronising })
 

@@ -4,10 +4,10 @@ pub mod Filled
 pub mod Gathered
 pub mod Graph
 pub mod Laws
+pub mod Least
 pub mod Ranks
 pub mod Rows
 pub mod Search
-pub mod Senders
 pub mod Tabulated
 pub mod Targets
 pub mod Viewed

@@ -3,8 +3,11 @@ use Rattle.std.proofs.Common.{◌≡◌, ℕ, suc, Bool, true, false, ◌⊎◌,
 use Rattle.std.proofs.lemmas.List.{get_or-set_other}
 use Rattle.std.proofs.lemmas.Bool.{cases_eq}
 use Rattle.contracts.specs.Paths.{Path, stay, step, After}
-use Rattle.contracts.specs.Searches.{Source}
 use Rattle.contracts.proofs.Graph.{longer, kept_in}
+
+-- the first state of the search, or one that it has found
+abbrev pub Source : List Bool → ℕ → ℕ → Type 0
+Source seen from s = (s ≡ from) ⊎ (get_or seen s false ≡ true)
 
 module _ (E : ℕ → ℕ → Type 0) (from : ℕ) (S : List Bool) where
   -- what a source leads to comes after the first state

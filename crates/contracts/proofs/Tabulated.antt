@@ -1,25 +1,24 @@
 -- What the table of a contract keeps of the moves as they are written.
-use Rattle.std.proofs.Common.{◌≡◌, ℕ, ◌+◌, ◌<◌, ◌≤◌, List, length, get_or, take, set, sym, ap, ◌∙◌, subst, arith, below_more}
-use Rattle.std.proofs.lemmas.List.{get_or-set_same, get_or-set_other, get_or-take, length-take-le}
+use Rattle.std.proofs.Common.{◌≡◌, ℕ, ◌<◌, List, length, get_or, sym, ap, ◌∙◌, subst, arith}
 use Rattle.syntax.specs.declared.tree.Mark.{Mark}
 use Rattle.syntax.specs.declared.tree.Mark.TheVariants.{Out, In}
 use Rattle.contracts.specs.declared.declaration.Declaration.{Declaration}
 use Rattle.contracts.specs.declared.declaration.Written.{Written}
 use Rattle.contracts.specs.declared.table.Table.{Table}
 use Rattle.contracts.specs.Acceptance.{Each, Marked, Tabled}
-use Rattle.contracts.specs.Numbers.{declaration_at, quiet, written_at}
+use Rattle.contracts.specs.Numbers.{declaration_at, messages_in, states_in, quiet, written_at}
 use Rattle.contracts.specs.Rules.{Never, Positional}
-use Rattle.contracts.specs.Tables.{blank, mark_of, states, table_at}
+use Rattle.contracts.specs.Tables.{mark_of, states, table_at}
 use Rattle.contracts.specs.Written.{Holds, Listed, MixedMarks, Resolved, SecondMove, WrongMark}
 use Rattle.contracts.proofs.Alike.{mark-same, one-mark, out_in}
 
 -- the numbers of a move are those that its contract declares
 pub declared-at : (ds : List Declaration) (ws : List Written) → Resolved ds ws → (c s m u : ℕ) → Listed ws (length ws) c s m u
-    → (s < (declaration_at ds c).state_count) × (m < (declaration_at ds c).message_count) × (u < (declaration_at ds c).state_count)
+    → (s < length (states_in (declaration_at ds c))) × (m < length (messages_in (declaration_at ds c))) × (u < length (states_in (declaration_at ds c)))
 declared-at ds ws resolved c s m u (i, l, o, x, y, z) =
     let (a, b, d, e) = resolved.proper i l in
-    let states : (declaration_at ds (written_at ws i).contract).state_count ≡ (declaration_at ds c).state_count = ap (λ k. (declaration_at ds k).state_count) o in
-    let messages : (declaration_at ds (written_at ws i).contract).message_count ≡ (declaration_at ds c).message_count = ap (λ k. (declaration_at ds k).message_count) o in
+    let states : length (states_in (declaration_at ds (written_at ws i).contract)) ≡ length (states_in (declaration_at ds c)) = ap (λ k. length (states_in (declaration_at ds k))) o in
+    let messages : length (messages_in (declaration_at ds (written_at ws i).contract)) ≡ length (messages_in (declaration_at ds c)) = ap (λ k. length (messages_in (declaration_at ds k))) o in
     omega arith
 
 -- and so they are below sixteen
@@ -35,9 +34,9 @@ module _ (ds : List Declaration) (ws : List Written) (c : ℕ) (t : Table) (hold
   right_mark : {s m u : ℕ} (d : Mark) → (h : Listed ws (length ws) c s m u) → mark_of t m ≡ d → (written_at ws h.0).mark ≡ d
   right_mark {m = m} d (i, l, o, x, y, z) e =
       mark-same _ _ (λ unlike. marked.right_marks i (l, unlike))
-      ∙ ap (λ k. (get_or (declaration_at ds k).messages (written_at ws i).message quiet).mark) o
-      ∙ ap (λ n. (get_or (declaration_at ds c).messages n quiet).mark) y
-      ∙ ap (λ (x : Declaration). (get_or x.messages m quiet).mark) (sym holds.declaration) ∙ e
+      ∙ ap (λ k. (get_or (messages_in (declaration_at ds k)) (written_at ws i).message quiet).mark) o
+      ∙ ap (λ n. (get_or (messages_in (declaration_at ds c)) n quiet).mark) y
+      ∙ ap (λ (x : Declaration). (get_or (messages_in x) m quiet).mark) (sym holds.declaration) ∙ e
 
   -- the moves of a state have one mark
   pub positional-from : Positional t
@@ -49,23 +48,6 @@ module _ (ds : List Declaration) (ws : List Written) (c : ℕ) (t : Table) (hold
       ∙ one-mark ws marked.positional h.0 k.0 h.1 k.1 (h.2 ∙ sym k.2, h.3 ∙ sym k.3)
       ∙ right_mark In k in'.1.1)
 
--- one table more
-pub tabled-more : (ds : List Declaration) (ws : List Written) (ts : List Table) (t : Table) (c : ℕ) → c < length ts → ((k : ℕ) → k < c → Holds (table_at ts k) ds ws k) → Holds t ds ws c
-    → (k : ℕ) → k < c + 1 → Holds (table_at (set ts c t) k) ds ws k
-tabled-more ds ws ts t c l each here =
-    below_more (λ k. Holds (table_at (set ts c t) k) ds ws k) c
-    (λ k less. subst (λ x. Holds x ds ws k) (sym (get_or-set_other ts c k t blank (λ e. omega arith))) (each k less))
-    (subst (λ x. Holds x ds ws c) (sym (get_or-set_same ts c t blank l)) here)
-
--- the tables in front are those of what is written
-pub tabled-all : (ds : List Declaration) (ws : List Written) (ts : List Table) → length ds ≤ length ts → ((k : ℕ) → k < length ds → Holds (table_at ts k) ds ws k) → Tabled ds ws (take (length ds) ts)
-tabled-all ds ws ts l each =
-    let count : length (take (length ds) ts) ≡ length ds = length-take-le (length ds) ts l in
-    record {
-      count = count;
-      each = λ k less. subst (λ x. Holds x ds ws k) (sym (get_or-take (length ds) ts k blank (omega arith))) (each k (omega arith));
-    }
-
 -- the rules on moves, where no move breaks one
 pub marked_from : (ds : List Declaration) (ws : List Written) → Never (WrongMark ds ws) → Never (SecondMove ws) → Never (MixedMarks ws) → Marked ds ws
 marked_from ds ws right single alike = record { right_marks = right; deterministic = single; positional = alike }
@@ -75,7 +57,7 @@ module _ (ds : List Declaration) (ws : List Written) (resolved : Resolved ds ws)
   pub each-inhabited : Each (λ t. 0 < states t) ts
   each-inhabited k l =
       let within : k < length ds = omega (arith, tabled.count) in
-      subst (λ (x : Declaration). 0 < x.state_count) (sym (tabled.each k l).declaration) (resolved.some_states k within)
+      subst (λ (x : Declaration). 0 < length (states_in x)) (sym (tabled.each k l).declaration) (resolved.some_states k within)
 
   pub each-positional : Each Positional ts
   each-positional k l = positional-from ds ws k (table_at ts k) (tabled.each k l) marked

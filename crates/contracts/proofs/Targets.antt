@@ -1,23 +1,32 @@
 -- What a move's numbers are below.
-use Rattle.std.proofs.Common.{◌≡◌, ℕ, suc, ◌<◌, true, false, ◌⊎◌, replicate, Option, refl, inl, inr, arith}
+use Rattle.std.proofs.Common.{◌≡◌, ℕ, suc, ◌<◌, ◌≤◌, length, length-take, true, false, replicate, Option, refl, arith}
 use Rattle.contracts.specs.declared.table.Table.{Table}
 use Rattle.std.proofs.lemmas.List.{get_or-replicate}
 use Rattle.contracts.specs.Moves.{Goes}
 use Rattle.syntax.specs.declared.tree.Mark.{Mark}
 use Rattle.contracts.specs.Paths.{Path, stay, step, Leads, After, OnCycle}
 use Rattle.contracts.specs.Rules.{Along}
-use Rattle.contracts.specs.Tables.{states}
+use Rattle.grammar.specs.declared.row.Row.{Row}
+use Rattle.grammar.specs.Rows.{row_items}
+use Rattle.contracts.specs.Tables.{messages, states}
 use Rattle.contracts.proofs.Graph.{kept_in, shorter}
 
-module _ (t : Table) (s m u : ℕ) (g : Goes t.moves s m u) where
-  pub source_below : s < 16
-  source_below = omega (arith, t.declared (record { from = s; by = m; to = u; goes = g }), t.few_states)
+-- a row has no more elements than it has places
+pub row_small : {X : Type 0} {N : ℕ} (r : Row X N) → length (row_items r) ≤ N
+row_small r = let few = r.few in simp length-take (omega arith)
 
-  pub message_below : m < 16
-  message_below = omega (arith, t.declared (record { from = s; by = m; to = u; goes = g }), t.few_messages)
+module _ (t : Table) (s m u : ℕ) (g : Goes t.moves s m u) where
+  numbered : (s < states t) × (m < messages t) × (u < states t)
+  numbered = t.declared (record { from = s; by = m; to = u; goes = g })
+
+  pub source_below : s < 16
+  source_below = omega (arith, numbered, row_small t.declaration.states)
+
+  pub message_below : m < messages t
+  message_below = numbered.1
 
   pub target_below : u < 16
-  target_below = omega (arith, t.declared (record { from = s; by = m; to = u; goes = g }), t.few_states)
+  target_below = omega (arith, numbered, row_small t.declaration.states)
 
 -- a path along moves that make no cycle has fewer moves than there may be states
 pub short : (t : Table) (w : Option Mark) → ((s : ℕ) → OnCycle (Along t w) s → ⊥) → {s u n : ℕ} → Path (Along t w) s u n → n < 16
@@ -27,11 +36,6 @@ short t w acyclic (step {s = s} {t = v} {n = n} e p) =
   where
     within : {x k : ℕ} → Path (Along t w) s x k → x < 16
     within q = kept_in (Along t w) (λ x. x < 16) (λ a b h f. target_below t a f.0 b f.2) q (source_below t s e.0 v e.2)
-
--- a path with a move starts at one of the states
-pub starts : (t : Table) (w : Option Mark) → {s u n : ℕ} → Path (Along t w) s u n → (n ≡ 0) ⊎ (s < 16)
-starts t w stay = inl refl
-starts t w (step {s = s} {t = v} e p) = inr (source_below t s e.0 v e.2)
 
 -- a state from which a move leads is declared
 pub moves_below : (t : Table) (w : Option Mark) → {s u n : ℕ} → Path (Along t w) s u (suc n) → s < states t

@@ -31,7 +31,7 @@ use Rattle.contracts.specs.Acceptance.{Accepted, Breaks, Tabled}
 use Rattle.contracts.specs.Judgement.{broken, Faulty, Judged, Keeps, undeclared}
 use Rattle.contracts.specs.Moves.{Goes}
 use Rattle.contracts.specs.Names.{ContractNamed, head_at, MessageNamed, no_message, StateNamed}
-use Rattle.contracts.specs.Numbers.{declaration_at, MessageAs, Numbers, PayloadAs, quiet, unwritten, written_at, WrittenAs}
+use Rattle.contracts.specs.Numbers.{declaration_at, messages_in, states_in, MessageAs, Numbers, PayloadAs, quiet, unwritten, written_at, WrittenAs}
 use Rattle.contracts.specs.Paths.{Path, stay, step}
 use Rattle.contracts.specs.Rules.{Along, Among, Unreached, Cycling}
 use Rattle.contracts.specs.Tables.{message_at, messages, states, table_at}
@@ -97,9 +97,9 @@ module _ (p : Parts) (distinct : Distinct p) where
 -- two lists of declarations agree on all that they declare but names
 record Agree (ds ds' : List Declaration) : Type 0 where
   pub count : length ds ≡ length ds'
-  pub message_count : (k : ℕ) → k < length ds → (declaration_at ds k).message_count ≡ (declaration_at ds' k).message_count
-  pub state_count : (k : ℕ) → k < length ds → (declaration_at ds k).state_count ≡ (declaration_at ds' k).state_count
-  pub message : (k m : ℕ) → k < length ds → m < (declaration_at ds k).message_count → get_or (declaration_at ds k).messages m quiet ≡ get_or (declaration_at ds' k).messages m quiet
+  pub message_count : (k : ℕ) → k < length ds → length (messages_in (declaration_at ds k)) ≡ length (messages_in (declaration_at ds' k))
+  pub state_count : (k : ℕ) → k < length ds → length (states_in (declaration_at ds k)) ≡ length (states_in (declaration_at ds' k))
+  pub message : (k m : ℕ) → k < length ds → m < length (messages_in (declaration_at ds k)) → get_or (messages_in (declaration_at ds k)) m quiet ≡ get_or (messages_in (declaration_at ds' k)) m quiet
 
 agree : (p : Parts) → Distinct p → (ds ds' : List Declaration) (ws ws' : List Written) → Numbers p ds ws → Numbers p ds' ws' → Agree ds ds'
 agree p distinct ds ds' ws ws' n n' = record {
@@ -127,11 +127,11 @@ module _ (ds ds' : List Declaration) (ws : List Written) (tables tables' : List 
 
   same_tables : (k : ℕ) → k < length tables → SameTable (table_at tables k) (table_at tables' k)
   same_tables k l = record {
-    message_count = ap (λ d. d.message_count) here ∙ same.message_count k own ∙ sym (ap (λ d. d.message_count) there);
-    state_count = ap (λ d. d.state_count) here ∙ same.state_count k own ∙ sym (ap (λ d. d.state_count) there);
+    message_count = ap (λ d. length (messages_in d)) here ∙ same.message_count k own ∙ sym (ap (λ d. length (messages_in d)) there);
+    state_count = ap (λ d. length (states_in d)) here ∙ same.state_count k own ∙ sym (ap (λ d. length (states_in d)) there);
     message = λ m b.
-        let w : m < (declaration_at ds k).message_count = omega (arith, ap (λ d. d.message_count) here) in
-        ap (λ d. get_or d.messages m quiet) here ∙ same.message k m own w ∙ sym (ap (λ d. get_or d.messages m quiet) there);
+        let w : m < length (messages_in (declaration_at ds k)) = omega (arith, ap (λ d. length (messages_in d)) here) in
+        ap (λ d. get_or (messages_in d) m quiet) here ∙ same.message k m own w ∙ sym (ap (λ d. get_or (messages_in d) m quiet) there);
     goes = λ s m u h. (made'.each k away).goes s m u ((made.each k l).listed s m u h);
   }
     where
@@ -165,7 +165,7 @@ sendable tables tables' count same (End role c s) (l, b, (u, h)) =
     (omega arith, (let e = (same c l).state_count in omega arith), (u, along (table_at tables c) (table_at tables' c) (same c l) (Some (sends role)) s u h))
 
 module _ (p : Parts) (ds ds' : List Declaration) (ws : List Written) (tables : List Table) (n : Numbers p ds ws) (same : Agree ds ds') (same' : Agree ds' ds) (kept : Accepted ds ws tables) where
-  right_mark : (i : ℕ) → i < length ws → get_or (declaration_at ds (written_at ws i).contract).messages (written_at ws i).message quiet ≡ get_or (declaration_at ds' (written_at ws i).contract).messages (written_at ws i).message quiet
+  right_mark : (i : ℕ) → i < length ws → get_or (messages_in (declaration_at ds (written_at ws i).contract)) (written_at ws i).message quiet ≡ get_or (messages_in (declaration_at ds' (written_at ws i).contract)) (written_at ws i).message quiet
   right_mark i l =
       let w = n.moved.each i l in
       let named : (written_at ws i).message < length (head_at p.heads (written_at ws i).contract).messages = rw w.contract w.message.0 in

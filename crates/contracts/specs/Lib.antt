@@ -7,7 +7,6 @@ pub mod Names
 pub mod Numbers
 pub mod Paths
 pub mod Rules
-pub mod Searches
 pub mod Tables
 pub mod Transfers
 pub mod View

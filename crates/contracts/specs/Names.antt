@@ -19,9 +19,7 @@
 --   FirstOrNone P r           r is none where no name has P, and else the first name with P
 --   NoLater d r               r is none, or d stands no later than r
 --   Earlier a b r             r is the earlier of the names a and b, of which each may be none
---   as_parts hs es             the contracts and the moves of a tree as parts of a file
---   Sized hs                  at most 8 contracts, of at most 16 messages and states each
-use Rattle.std.specs.Prelude.{◌≡◌, ℕ, ◌<◌, ◌≤◌, ◌⊎◌, List, map, length, get_or, Some, None, Option, MatchOption, slice_index_or}
+use Rattle.std.specs.Prelude.{◌≡◌, ℕ, ◌<◌, ◌≤◌, ◌⊎◌, List, length, get_or, Some, None, Option, MatchOption, slice_index_or}
 use Rattle.words.specs.declared.name.Name.{Name}
 use Rattle.words.specs.declared.name.Ident.{Ident}
 use Rattle.syntax.specs.declared.tree.Mark.TheVariants.{Out}
@@ -29,9 +27,8 @@ use Rattle.syntax.specs.declared.tree.Payload.{Payload}
 use Rattle.syntax.specs.declared.tree.Payload.TheVariants.{Nothing, Block, End}
 use Rattle.syntax.specs.declared.tree.Message.{Message}
 use Rattle.syntax.specs.declared.tree.MoveEntry.{MoveEntry}
-use Rattle.syntax.specs.declared.tree.Head.{Head}
 use Rattle.grammar.specs.Families.{no_ident}
-use Rattle.syntax.specs.Trees.{declares, Parts, HeadTree, no_head, no_move}
+use Rattle.syntax.specs.Trees.{Parts, HeadTree, no_head, no_move}
 
 -- what stands past the last message
 abbrev pub no_message : Message
@@ -105,11 +102,3 @@ NoLater d (Some e) = d.place ≤ e.place
 abbrev pub Earlier : Option Ident → Option Ident → Option Ident → Type 0
 Earlier a b None = (a ≡ None) × (b ≡ None)
 Earlier a b (Some d) = ((a ≡ Some d) ⊎ (b ≡ Some d)) × NoLater d a × NoLater d b
-
-abbrev pub as_parts : List Head → List MoveEntry → Parts
-as_parts hs es = record { heads = map declares hs; moves = es }
-
-pub record Sized (hs : List HeadTree) : Type 0 where
-  pub contracts : length hs ≤ 8
-  pub messages : (k : ℕ) → length (head_at hs k).messages ≤ 16
-  pub states : (k : ℕ) → length (head_at hs k).states ≤ 16

@@ -1,5 +1,6 @@
 -- A contract file with numbers in place of names. Contracts, and what each declares, are a list hs.
 --   declaration_at ds k, written_at ws i    the k-th declaration, the i-th move
+--   messages_in d, states_in d            the messages and the names of the states that d declares
 --   PayloadAs hs x y                      y is the payload x by numbers
 --   MessageAs hs x y                      y is the message x by numbers
 --   MessagesAs hs xs ys                   ys begins with the messages xs by numbers
@@ -10,6 +11,7 @@
 --   Moved hs es ws                        ws are the moves es by numbers
 --   Numbers p ds ws                       ds and ws are the declarations and the moves of p by numbers
 use Rattle.std.specs.Prelude.{◌≡◌, ℕ, ◌<◌, List, [], length, get_or, slice_index_or}
+use Rattle.std.proofs.Common.{arith}
 use Rattle.words.specs.declared.name.Name.{Name}
 use Rattle.words.specs.declared.name.Ident.{Ident}
 use Rattle.syntax.specs.declared.tree.Mark.TheVariants.{Out}
@@ -17,6 +19,8 @@ use Rattle.syntax.specs.declared.tree.Payload.{Payload as PayloadTree}
 use Rattle.syntax.specs.declared.tree.Payload.TheVariants as t
 use Rattle.syntax.specs.declared.tree.Message.{Message as MessageTree}
 use Rattle.syntax.specs.declared.tree.MoveEntry.{MoveEntry}
+use Rattle.grammar.specs.declared.row.Row.{Row}
+use Rattle.grammar.specs.Rows.{row_items}
 use Rattle.grammar.specs.Families.{no_ident}
 use Rattle.syntax.specs.Trees.{Parts, HeadTree, no_move}
 use Rattle.contracts.specs.declared.declaration.Payload.{Payload}
@@ -33,8 +37,18 @@ no_name = record { len = 0; bytes = [] }
 abbrev pub quiet : Message
 quiet = record { name = no_name; mark = Out; payload = Nothing }
 
+-- a row with no element
+abbrev pub none_of : {X : Type 0} {N : ℕ} → Row X N
+none_of = record { items = []; len = 0; few = omega arith }
+
+abbrev pub messages_in : Declaration → List Message
+messages_in d = row_items d.messages
+
+abbrev pub states_in : Declaration → List Name
+states_in d = row_items d.states
+
 abbrev pub undeclared : Declaration
-undeclared = record { name = no_name; message_count = 0; messages = []; state_count = 0; states = [] }
+undeclared = record { name = no_name; messages = none_of; states = none_of }
 
 abbrev pub unwritten : Written
 unwritten = record { contract = 0; state = 0; message = 0; mark = Out; target = 0 }
@@ -63,10 +77,10 @@ StatesAs xs ys = (s : ℕ) → s < length xs → slice_index_or ys s no_name ≡
 
 pub record DeclaredAs (hs : List HeadTree) (h : HeadTree) (d : Declaration) : Type 0 where
   pub name : d.name ≡ h.ident.name
-  pub message_count : d.message_count ≡ length h.messages
-  pub state_count : d.state_count ≡ length h.states
-  pub messages : MessagesAs hs h.messages d.messages
-  pub states : StatesAs h.states d.states
+  pub message_count : length (messages_in d) ≡ length h.messages
+  pub state_count : length (states_in d) ≡ length h.states
+  pub messages : MessagesAs hs h.messages (messages_in d)
+  pub states : StatesAs h.states (states_in d)
 
 pub record WrittenAs (hs : List HeadTree) (e : MoveEntry) (w : Written) : Type 0 where
   pub contract : w.contract ≡ e.contract

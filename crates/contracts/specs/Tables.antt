@@ -5,14 +5,14 @@
 --   state_at t s           the name of its state s
 --   mark_of t m            the mark of its message m
 --   payload_of t m         what its message m carries
-use Rattle.std.specs.Prelude.{◌≡◌, ℕ, List, [], Some, None, Option, slice_index_or}
+use Rattle.std.specs.Prelude.{◌≡◌, ℕ, List, [], length, Some, None, Option, slice_index_or}
 use Rattle.std.proofs.Common.{arith}
 use Rattle.words.specs.declared.name.Name.{Name}
 use Rattle.syntax.specs.declared.tree.Mark.{Mark}
 use Rattle.contracts.specs.declared.declaration.Message.{Message}
 use Rattle.contracts.specs.declared.declaration.Payload.{Payload}
 use Rattle.contracts.specs.declared.table.Table.{Table}
-use Rattle.contracts.specs.Numbers.{no_name, quiet, undeclared}
+use Rattle.contracts.specs.Numbers.{messages_in, no_name, quiet, states_in, undeclared}
 
 -- no move leads from a place that is empty
 pub nowhere : (u : ℕ) → ◌≡◌ {A = Option ℕ} None (Some u) → ⊥
@@ -23,8 +23,6 @@ abbrev pub blank : Table
 blank = record {
   declaration = undeclared;
   moves = [];
-  few_messages = omega arith;
-  few_states = omega arith;
   declared = λ v. absurd (nowhere v.to v.goes);
 }
 
@@ -32,16 +30,16 @@ abbrev pub table_at : List Table → ℕ → Table
 table_at tables k = slice_index_or tables k blank
 
 abbrev pub messages : Table → ℕ
-messages t = t.declaration.message_count
+messages t = length (messages_in t.declaration)
 
 abbrev pub states : Table → ℕ
-states t = t.declaration.state_count
+states t = length (states_in t.declaration)
 
 abbrev pub message_at : Table → ℕ → Message
-message_at t m = slice_index_or t.declaration.messages m quiet
+message_at t m = slice_index_or (messages_in t.declaration) m quiet
 
 abbrev pub state_at : Table → ℕ → Name
-state_at t s = slice_index_or t.declaration.states s no_name
+state_at t s = slice_index_or (states_in t.declaration) s no_name
 
 abbrev pub mark_of : Table → ℕ → Mark
 mark_of t m = (message_at t m).mark

@@ -12,7 +12,7 @@ use Rattle.contracts.specs.declared.declaration.Declaration.{Declaration}
 use Rattle.contracts.specs.declared.declaration.Written.{Written}
 use Rattle.contracts.specs.declared.table.Table.{Table}
 use Rattle.contracts.specs.Moves.{Goes}
-use Rattle.contracts.specs.Numbers.{declaration_at, quiet, written_at}
+use Rattle.contracts.specs.Numbers.{declaration_at, messages_in, quiet, states_in, written_at}
 
 abbrev pub SameState : Written → Written → Type 0
 SameState v w = (v.contract ≡ w.contract) × (v.state ≡ w.state)
@@ -20,7 +20,7 @@ SameState v w = (v.contract ≡ w.contract) × (v.state ≡ w.state)
 abbrev pub WrongMark : List Declaration → List Written → ℕ → Type 0
 WrongMark ds ws i =
     (i < length ws)
-    × ((written_at ws i).mark ≢ (slice_index_or (declaration_at ds (written_at ws i).contract).messages (written_at ws i).message quiet).mark)
+    × ((written_at ws i).mark ≢ (slice_index_or (messages_in (declaration_at ds (written_at ws i).contract)) (written_at ws i).message quiet).mark)
 
 abbrev pub SecondMove : List Written → ℕ → Type 0
 SecondMove ws i =
@@ -35,15 +35,15 @@ MixedMarks ws i =
 
 abbrev pub Proper : List Declaration → Written → Type 0
 Proper ds w =
-    (w.contract < length ds) × (w.state < (declaration_at ds w.contract).state_count)
-    × (w.message < (declaration_at ds w.contract).message_count) × (w.target < (declaration_at ds w.contract).state_count)
+    (w.contract < length ds) × (w.state < length (states_in (declaration_at ds w.contract)))
+    × (w.message < length (messages_in (declaration_at ds w.contract))) × (w.target < length (states_in (declaration_at ds w.contract)))
 
 pub record Resolved (ds : List Declaration) (ws : List Written) : Type 0 where
   pub some : 0 < length ds
   pub few : length ds ≤ 8
-  pub few_messages : (k : ℕ) → k < length ds → (declaration_at ds k).message_count ≤ 16
-  pub some_states : (k : ℕ) → k < length ds → 0 < (declaration_at ds k).state_count
-  pub few_states : (k : ℕ) → k < length ds → (declaration_at ds k).state_count ≤ 16
+  pub few_messages : (k : ℕ) → k < length ds → length (messages_in (declaration_at ds k)) ≤ 16
+  pub some_states : (k : ℕ) → k < length ds → 0 < length (states_in (declaration_at ds k))
+  pub few_states : (k : ℕ) → k < length ds → length (states_in (declaration_at ds k)) ≤ 16
   pub proper : (i : ℕ) → i < length ws → Proper ds (written_at ws i)
 
 abbrev pub Listed : List Written → ℕ → ℕ → ℕ → ℕ → ℕ → Type 0

@@ -1,4 +1,5 @@
 // Contracts as they are declared, with numbers in place of names.
+use grammar::row::Row;
 use syntax::tree::{Mark, Role};
 use words::name::Name;
 
@@ -22,10 +23,8 @@ pub struct Message {
 #[derive(Clone, Copy)]
 pub struct Declaration {
     pub name: Name,
-    pub message_count: usize,
-    pub messages: [Message; 16],
-    pub state_count: usize,
-    pub states: [Name; 16],
+    pub messages: Row<Message, 16>,
+    pub states: Row<Name, 16>,
 }
 
 /// A move by its numbers: in a contract's state, by a message, with a mark, to a state.

@@ -1,17 +1,16 @@
 // From the tree of a contract file to an accepted set, or the fault that is first by the rules.
-ghost use Rattle.std.specs.Prelude.{◌≡◌, ◌<◌, map, length, get_or, slice_index_or};
-ghost use Rattle.grammar.specs.Families.{no_ident};
-ghost use Rattle.syntax.specs.Trees.{declares, parts, Ranged};
-ghost use Rattle.contracts.specs.Judgement.{fault_from, Inhabited, Judged, span_of as span_at, Within};
-ghost use Rattle.contracts.specs.Names.{as_parts, head_at, no_message};
+ghost use Rattle.std.specs.Prelude.{◌≡◌, ◌<◌, length};
+ghost use Rattle.syntax.specs.Trees.{parts, Ranged};
+ghost use Rattle.contracts.specs.Judgement.{fault_from, Inhabited, Judged, message_name, move_name, span_of as span_at, state_name, Within};
+ghost use Rattle.contracts.specs.Names.{head_at};
 
 use crate::broken::Broken;
+use crate::by_numbers::ByNumbers;
 use crate::fault::RuleFault;
-use crate::names::{messages, states};
 use crate::resolve::resolve;
 use crate::set::ContractSet;
 use crate::set::accept::accept;
-use syntax::tree::{Head, MoveEntry, Tree};
+use syntax::tree::Tree;
 use words::fault::{Source, Span};
 use words::name::Ident;
 
@@ -26,38 +25,44 @@ fn span_of(ident: Ident) -> Span
     }
 }
 
-// Where the name of a state stands.
-fn state_span(heads: &[Head], contract: usize, s: usize) -> Span
-    requires contract { contract < length heads.now }
-    requires state { s < length (head_at (map declares heads.now) contract).states }
-    ensures { result ≡ span_at (slice_index_or (head_at (map declares heads.now) contract).states s no_ident) }
+// Where the name of a move's message stands.
+fn move_span(tree: &Tree, i: usize) -> Span
+    requires { i < length (parts tree.now).moves }
+    ensures { result ≡ span_at (move_name (parts tree.now) i) }
 {
-    let ident = states(&heads[contract])[s];
-    span_of(ident)
+    span_of(tree.moves()[i].step.message)
+}
+
+// Where the name of a state stands.
+fn state_span(tree: &Tree, contract: usize, s: usize) -> Span
+    requires contract { contract < length (parts tree.now).heads }
+    requires state { s < length (head_at (parts tree.now).heads contract).states }
+    ensures { result ≡ span_at (state_name (parts tree.now) contract s) }
+{
+    span_of(tree.heads()[contract].states.as_slice()[s])
 }
 
 // Where the name of a message stands.
-fn message_span(heads: &[Head], contract: usize, m: usize) -> Span
-    requires contract { contract < length heads.now }
-    requires message { m < length (head_at (map declares heads.now) contract).messages }
-    ensures { result ≡ span_at (get_or (head_at (map declares heads.now) contract).messages m no_message).ident }
+fn message_span(tree: &Tree, contract: usize, m: usize) -> Span
+    requires contract { contract < length (parts tree.now).heads }
+    requires message { m < length (head_at (parts tree.now).heads contract).messages }
+    ensures { result ≡ span_at (message_name (parts tree.now) contract m) }
 {
-    let message = messages(&heads[contract])[m];
-    span_of(message.ident)
+    span_of(tree.heads()[contract].messages.as_slice()[m].ident)
 }
 
 // The fault that a broken rule is shown as.
-fn fault_of(heads: &[Head], moves: &[MoveEntry], broken: Broken) -> RuleFault
-    requires { Within (as_parts heads.now moves.now) broken }
-    ensures { result ≡ fault_from (as_parts heads.now moves.now) broken }
+fn fault_of(tree: &Tree, broken: Broken) -> RuleFault
+    requires { Within (parts tree.now) broken }
+    ensures { result ≡ fault_from (parts tree.now) broken }
 {
     match broken {
-        Broken::WrongMark(i) => RuleFault::WrongMark(span_of(moves[i].step.message)),
-        Broken::SecondMove(i) => RuleFault::SecondMove(span_of(moves[i].step.message)),
-        Broken::MixedMarks(i) => RuleFault::MixedMarks(span_of(moves[i].step.message)),
-        Broken::Unreachable(k, s) => RuleFault::Unreachable(state_span(heads, k, s)),
-        Broken::OneWayCycle(k, s) => RuleFault::OneWayCycle(state_span(heads, k, s)),
-        Broken::SilentEnd(k, m) => RuleFault::SilentEnd(message_span(heads, k, m)),
+        Broken::WrongMark(i) => RuleFault::WrongMark(move_span(tree, i)),
+        Broken::SecondMove(i) => RuleFault::SecondMove(move_span(tree, i)),
+        Broken::MixedMarks(i) => RuleFault::MixedMarks(move_span(tree, i)),
+        Broken::Unreachable(k, s) => RuleFault::Unreachable(state_span(tree, k, s)),
+        Broken::OneWayCycle(k, s) => RuleFault::OneWayCycle(state_span(tree, k, s)),
+        Broken::SilentEnd(k, m) => RuleFault::SilentEnd(message_span(tree, k, m)),
     }
 }
 
@@ -67,12 +72,10 @@ pub(crate) fn judge(tree: &Tree) -> Result<ContractSet, RuleFault>
     requires inhabited { Inhabited (parts tree.now) }
     ensures { Judged (parts tree.now) result }
 {
-    let numbered = match resolve(tree) {
-        Ok(numbered) => numbered,
-        Err(ident) => return Err(RuleFault::Undeclared(span_of(ident))),
+    let numbered = resolve(tree).map_err(|ident| RuleFault::Undeclared(span_of(ident)))?;
+    let file = ByNumbers {
+        declarations: numbered.declarations.as_slice(),
+        moves: numbered.moves.as_slice(),
     };
-    match accept(numbered.declarations.as_slice(), numbered.moves.as_slice()) {
-        Ok(set) => Ok(set),
-        Err(broken) => Err(fault_of(tree.heads(), tree.moves(), broken)),
-    }
+    accept(&file).map_err(|broken| fault_of(tree, broken))
 }

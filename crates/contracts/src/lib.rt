@@ -2,6 +2,7 @@
 #![tactic(auto)]
 
 mod broken;
+mod by_numbers;
 pub mod check;
 mod contract;
 pub mod declaration;

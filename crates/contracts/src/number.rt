@@ -1,20 +1,20 @@
 // The number that a name of a payload or a move stands for.
-ghost use Rattle.std.specs.Prelude.{◌≡◌, ℕ, ◌<◌, map, length, MatchResult};
-ghost use Rattle.syntax.specs.Trees.{declares};
+ghost use Rattle.std.specs.Prelude.{◌≡◌, ℕ, ◌<◌, length, MatchResult};
+ghost use Rattle.syntax.specs.Trees.{parts};
 ghost use Rattle.syntax.specs.declared.tree.Payload.TheVariants.{End};
-ghost use Rattle.contracts.specs.Names.{MessageNamed, PayloadMissing, Sized, StateNamed};
+ghost use Rattle.contracts.specs.Names.{MessageNamed, PayloadMissing, StateNamed};
 ghost use Rattle.contracts.specs.Numbers.{PayloadAs};
 
 use crate::declaration::Payload;
-use crate::names::{find_contract, find_end, find_message, find_state, messages, states};
-use syntax::tree::{Head, MoveEntry, Payload as PayloadTree, Role};
+use crate::names::{find_contract, find_end, find_message, find_state};
+use syntax::tree::{MoveEntry, Payload as PayloadTree, Role, Tree};
 use words::name::Ident;
 
 // The end of a contract in a state, or the name of the two that is not declared.
-fn end(heads: &[Head], role: Role, contract: Ident, state: Ident) -> Result<Payload, Ident>
-    requires { Sized (map declares heads.now) }
-    ensures { MatchResult result (PayloadAs (map declares heads.now) (End role contract state)) (PayloadMissing (map declares heads.now) (End role contract state)) }
+fn end(tree: &Tree, role: Role, contract: Ident, state: Ident) -> Result<Payload, Ident>
+    ensures { MatchResult result (PayloadAs (parts tree.now).heads (End role contract state)) (PayloadMissing (parts tree.now).heads (End role contract state)) }
 {
+    let heads = tree.heads();
     if let Some((k, u)) = find_end(heads, contract.name, state.name) {
         return Ok(Payload::End {
             role,
@@ -29,9 +29,8 @@ fn end(heads: &[Head], role: Role, contract: Ident, state: Ident) -> Result<Payl
 }
 
 // What a message carries, or the name that is not declared.
-pub(crate) fn payload(heads: &[Head], written: PayloadTree) -> Result<Payload, Ident>
-    requires { Sized (map declares heads.now) }
-    ensures { MatchResult result (PayloadAs (map declares heads.now) written) (PayloadMissing (map declares heads.now) written) }
+pub(crate) fn payload(tree: &Tree, written: PayloadTree) -> Result<Payload, Ident>
+    ensures { MatchResult result (PayloadAs (parts tree.now).heads written) (PayloadMissing (parts tree.now).heads written) }
 {
     match written {
         PayloadTree::Nothing => Ok(Payload::Nothing),
@@ -40,30 +39,26 @@ pub(crate) fn payload(heads: &[Head], written: PayloadTree) -> Result<Payload, I
             role,
             contract,
             state,
-        } => end(heads, role, contract, state),
+        } => end(tree, role, contract, state),
     }
 }
 
 // A move's message by its number, or its name where it is not declared.
-pub(crate) fn message_of(heads: &[Head], entry: MoveEntry) -> Result<usize, Ident>
-    requires { entry.contract < length heads.now }
-    ensures { MatchResult result (MessageNamed (map declares heads.now) entry.contract entry.step.message.name) (λ d. (entry.step.message ≡ d) × ((m : ℕ) → MessageNamed (map declares heads.now) entry.contract entry.step.message.name m → ⊥)) }
+pub(crate) fn message_of(tree: &Tree, entry: MoveEntry) -> Result<usize, Ident>
+    requires { entry.contract < length (parts tree.now).heads }
+    ensures { MatchResult result (MessageNamed (parts tree.now).heads entry.contract entry.step.message.name) (λ d. (entry.step.message ≡ d) × ((m : ℕ) → MessageNamed (parts tree.now).heads entry.contract entry.step.message.name m → ⊥)) }
 {
-    let head = &heads[entry.contract];
-    match find_message(messages(head), entry.step.message.name) {
-        Some(m) => Ok(m),
-        None => Err(entry.step.message),
-    }
+    let head = &tree.heads()[entry.contract];
+    find_message(head.messages.as_slice(), entry.step.message.name).ok_or(entry.step.message)
 }
 
 // A move's target by its number, or its name where it is not declared.
-pub(crate) fn target_of(heads: &[Head], entry: MoveEntry) -> Result<u8, Ident>
-    requires sized { Sized (map declares heads.now) }
-    requires owner { entry.contract < length heads.now }
-    ensures { MatchResult result (StateNamed (map declares heads.now) entry.contract entry.step.target.name) (λ d. (entry.step.target ≡ d) × ((s : ℕ) → StateNamed (map declares heads.now) entry.contract entry.step.target.name s → ⊥)) }
+pub(crate) fn target_of(tree: &Tree, entry: MoveEntry) -> Result<u8, Ident>
+    requires { entry.contract < length (parts tree.now).heads }
+    ensures { MatchResult result (StateNamed (parts tree.now).heads entry.contract entry.step.target.name) (λ d. (entry.step.target ≡ d) × ((s : ℕ) → StateNamed (parts tree.now).heads entry.contract entry.step.target.name s → ⊥)) }
 {
-    let head = &heads[entry.contract];
-    match find_state(states(head), entry.step.target.name) {
+    let head = &tree.heads()[entry.contract];
+    match find_state(head.states.as_slice(), entry.step.target.name) {
         Some(s) => Ok(s as u8),
         None => Err(entry.step.target),
     }

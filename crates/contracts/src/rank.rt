@@ -1,28 +1,11 @@
 // How many moves the longest one-way paths have.
-ghost use Rattle.std.specs.Prelude.{ℕ, ◌<◌, ◌≤◌, MatchOption, slice_index};
+ghost use Rattle.std.specs.Prelude.{◌≡◌, ℕ, ◌<◌, ◌≤◌, length, MatchOption, slice_index};
 ghost use Rattle.contracts.specs.Paths.{Furthest, Longest, OnCycle};
 ghost use Rattle.contracts.specs.Rules.{OneWay};
 
 use crate::table::Table;
+use crate::walk::find_move;
 use syntax::tree::Mark;
-
-// A state at least as high as `s` to which `s` has a move.
-fn no_lower(t: &Table, d: Mark, s: usize, rank: &[u8; 16]) -> Option<usize>
-    requires within { s < 16 }
-    ensures { MatchOption result
-        ((u : ℕ) → OneWay t.now d s u → slice_index rank.now u < slice_index rank.now s)
-        (λ u. OneWay t.now d s u × (u < 16) × (slice_index rank.now s ≤ slice_index rank.now u)) }
-{
-    for m in 0..16 {
-        if let Some(to) = t.target(s, m) {
-            let u = to as usize;
-            if t.message(m).mark == d && rank[s] <= rank[u] {
-                return Some(u);
-            }
-        }
-    }
-    None
-}
 
 // A move to a state that is no lower, as its two states.
 fn too_low(t: &Table, d: Mark, rank: &[u8; 16]) -> Option<(usize, usize)>
@@ -30,12 +13,7 @@ fn too_low(t: &Table, d: Mark, rank: &[u8; 16]) -> Option<(usize, usize)>
         ((s u : ℕ) → OneWay t.now d s u → slice_index rank.now u < slice_index rank.now s)
         (λ v. OneWay t.now d v.0 v.1 × (v.0 < 16) × (v.1 < 16) × (slice_index rank.now v.0 ≤ slice_index rank.now v.1)) }
 {
-    for s in 0..16 {
-        if let Some(u) = no_lower(t, d, s, rank) {
-            return Some((s, u));
-        }
-    }
-    None
+    find_move(t, Some(d), |s, u| rank[s] <= rank[u])
 }
 
 // For each state the number of moves on the longest one-way path from it.
@@ -50,18 +28,20 @@ fn ranks(t: &Table, d: Mark) -> [u8; 16]
     rank
 }
 
+// The highest of the ranks.
+fn highest(rank: &[u8]) -> u8
+    requires { 0 < length rank.now }
+    ensures some { (s : ℕ) × (s < length rank.now) × (slice_index rank.now s ≡ result) }
+    ensures most { (s : ℕ) → s < length rank.now → slice_index rank.now s ≤ result }
+{
+    rank.iter().copied().max().unwrap_or(0)
+}
+
 /// The number of moves on the longest one-way path.
 pub(crate) fn longest(t: &Table, d: Mark) -> u8
     requires acyclic { (s : ℕ) → OnCycle (OneWay t.now d) s → ⊥ }
     ensures exact { Longest (OneWay t.now d) result }
     ensures small { result ≤ 15 }
 {
-    let rank = ranks(t, d);
-    let mut top = 0;
-    for s in 0..16 {
-        if rank[top] < rank[s] {
-            top = s;
-        }
-    }
-    rank[top]
+    highest(&ranks(t, d))
 }

@@ -1,8 +1,8 @@
 // A contract file by numbers, or its first name that is not declared.
-ghost use Rattle.std.specs.Prelude.{ℕ, ◌<◌, ◌≤◌, map, length, MatchResult, slice_index_or};
+ghost use Rattle.std.specs.Prelude.{◌<◌, length, MatchResult};
 ghost use Rattle.grammar.specs.Rows.{row_items};
-ghost use Rattle.syntax.specs.Trees.{declares, no_move, parts, Ranged};
-ghost use Rattle.contracts.specs.Names.{as_parts, FirstOrNone, FirstUnresolved, MoveMissing, MovesMissing, Sized, Unresolved};
+ghost use Rattle.syntax.specs.Trees.{parts, Ranged};
+ghost use Rattle.contracts.specs.Names.{FirstOrNone, FirstUnresolved, MoveMissing, MovesMissing, Unresolved};
 ghost use Rattle.contracts.specs.Numbers.{Moved, Numbers, WrittenAs};
 
 use crate::declaration::{Declaration, Written};
@@ -10,7 +10,7 @@ use crate::declared::declarations;
 use crate::number::{message_of, target_of};
 use crate::undeclared::{earlier, in_heads, in_moves};
 use grammar::row::Row;
-use syntax::tree::{Head, Mark, MoveEntry, Tree};
+use syntax::tree::{Mark, MoveEntry, Tree};
 use words::name::Ident;
 
 /// A contract file by numbers: what each contract declares, and all moves in the order of the text.
@@ -20,6 +20,7 @@ pub(crate) struct Numbered {
     pub(crate) moves: Row<Written, 682>,
 }
 
+// What stands in the unused places of a row.
 const NO_MOVE: Written = Written {
     contract: 0,
     state: 0,
@@ -29,13 +30,12 @@ const NO_MOVE: Written = Written {
 };
 
 // A move by numbers, or a name of it that is not declared.
-fn written(heads: &[Head], entry: MoveEntry) -> Result<Written, Ident>
-    requires sized { Sized (map declares heads.now) }
-    requires owner { entry.contract < length heads.now }
-    ensures { MatchResult result (WrittenAs (map declares heads.now) entry) (MoveMissing (map declares heads.now) entry) }
+fn written(tree: &Tree, entry: MoveEntry) -> Result<Written, Ident>
+    requires { entry.contract < length (parts tree.now).heads }
+    ensures { MatchResult result (WrittenAs (parts tree.now).heads entry) (MoveMissing (parts tree.now).heads entry) }
 {
-    let message = message_of(heads, entry)?;
-    let target = target_of(heads, entry)?;
+    let message = message_of(tree, entry)?;
+    let target = target_of(tree, entry)?;
     Ok(Written {
         contract: entry.contract,
         state: entry.state,
@@ -46,39 +46,34 @@ fn written(heads: &[Head], entry: MoveEntry) -> Result<Written, Ident>
 }
 
 // All moves by numbers, or a name of a move that is not declared.
-fn all_moves(heads: &[Head], entries: &[MoveEntry]) -> Result<Row<Written, 682>, Ident>
-    requires sized { Sized (map declares heads.now) }
-    requires owners { (i : ℕ) → i < length entries.now → (slice_index_or entries.now i no_move).contract < length heads.now }
-    requires few { length entries.now ≤ 682 }
-    ensures { MatchResult result (λ ws. Moved (map declares heads.now) entries.now (row_items ws)) (MovesMissing (map declares heads.now) entries.now) }
+fn all_moves(tree: &Tree) -> Result<Row<Written, 682>, Ident>
+    requires { Ranged (parts tree.now) }
+    ensures { MatchResult result (λ ws. Moved (parts tree.now).heads (parts tree.now).moves (row_items ws)) (MovesMissing (parts tree.now).heads (parts tree.now).moves) }
 {
     let mut all = Row::new(NO_MOVE);
-    for entry in entries {
-        let next = written(heads, *entry)?;
+    for entry in tree.moves() {
+        let next = written(tree, *entry)?;
         let _ = all.push(next);
     }
     Ok(all)
 }
 
 // The first name of a file that is not declared.
-fn first_undeclared(heads: &[Head], entries: &[MoveEntry]) -> Option<Ident>
-    requires { Ranged (as_parts heads.now entries.now) }
-    ensures { FirstOrNone (Unresolved (as_parts heads.now entries.now)) result }
+fn first_undeclared(tree: &Tree) -> Option<Ident>
+    requires { Ranged (parts tree.now) }
+    ensures { FirstOrNone (Unresolved (parts tree.now)) result }
 {
-    earlier(in_heads(heads), in_moves(heads, entries))
+    earlier(in_heads(tree), in_moves(tree))
 }
 
 // A file by numbers, or a name of it that is not declared.
-fn by_numbers(heads: &[Head], entries: &[MoveEntry]) -> Result<Numbered, Ident>
-    requires ranged { Ranged (as_parts heads.now entries.now) }
-    requires few { length entries.now ≤ 682 }
-    ensures { MatchResult result (λ n. Numbers (as_parts heads.now entries.now) (row_items n.declarations) (row_items n.moves)) (Unresolved (as_parts heads.now entries.now)) }
+fn by_numbers(tree: &Tree) -> Result<Numbered, Ident>
+    requires { Ranged (parts tree.now) }
+    ensures { MatchResult result (λ n. Numbers (parts tree.now) (row_items n.declarations) (row_items n.moves)) (Unresolved (parts tree.now)) }
 {
-    let declarations = declarations(heads)?;
-    let moves = all_moves(heads, entries)?;
     Ok(Numbered {
-        declarations,
-        moves,
+        declarations: declarations(tree)?,
+        moves: all_moves(tree)?,
     })
 }
 
@@ -87,10 +82,8 @@ pub(crate) fn resolve(tree: &Tree) -> Result<Numbered, Ident>
     requires { Ranged (parts tree.now) }
     ensures { MatchResult result (λ n. Numbers (parts tree.now) (row_items n.declarations) (row_items n.moves)) (FirstUnresolved (parts tree.now)) }
 {
-    let heads = tree.heads();
-    let entries = tree.moves();
-    match first_undeclared(heads, entries) {
+    match first_undeclared(tree) {
         Some(ident) => Err(ident),
-        None => by_numbers(heads, entries),
+        None => by_numbers(tree),
     }
 }

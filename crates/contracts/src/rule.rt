@@ -25,6 +25,7 @@ pub(crate) fn earliest<R: Rule>(rule: &R, tables: &[Table]) -> Option<(usize, us
         (λ v. (v.0 < length tables.now) × First (R.breaks tables.now v.0) v.1
         × ((k : ℕ) → k < v.0 → R.keeps tables.now k)) }
 {
+    // By number: a rule takes the contract's number, and `find_map` over the numbers leaves a goal that no lemma closes.
     for k in 0..tables.len() {
         if let Some(i) = rule.first(tables, k) {
             return Some((k, i));

@@ -1,25 +1,24 @@
 // Accepted sets of contracts.
-ghost use Rattle.std.specs.Prelude.{◌≡◌, ◌<◌, ◌≤◌, length, take};
+ghost use Rattle.std.specs.Prelude.{◌<◌, length};
+ghost use Rattle.grammar.specs.Rows.{row_items};
 ghost use Rattle.contracts.specs.Acceptance.{Each, tables_of};
 ghost use Rattle.contracts.specs.Transfers.{Lawful};
 
 use crate::contract::Contract;
+use grammar::row::Row;
 
 pub(crate) mod accept;
 mod bounds;
-mod family;
+pub mod family;
 mod laws;
 mod names;
 mod view;
 
 /// One to eight contracts, each of which keeps the rules on its states, and whose messages carry ends only in states in
-/// which these may send. The places behind the last contract hold the first one again.
+/// which these may send.
 #[derive(Clone, Copy)]
 pub struct ContractSet {
-    count: usize,
-    contracts: [Contract; 8],
-    ghost full: { length contracts ≡ 8 },
-    ghost some: { 0 < count },
-    ghost few: { count ≤ 8 },
-    ghost lawful: { Each (Lawful (tables_of (take count contracts))) (tables_of (take count contracts)) },
+    contracts: Row<Contract, 8>,
+    ghost some: { 0 < length (row_items contracts) },
+    ghost lawful: { Each (Lawful (tables_of (row_items contracts))) (tables_of (row_items contracts)) },
 }

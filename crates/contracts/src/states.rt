@@ -13,12 +13,7 @@ fn first_unreached(t: &Table) -> Option<usize>
     ensures { MatchOption result (Reachable t.now) (First (Unreached t.now)) }
 {
     let seen = after(t, None, 0);
-    for s in 0..t.declaration.state_count {
-        if s != 0 && !seen[s] {
-            return Some(s);
-        }
-    }
-    None
+    (0..t.states().len()).find(|&s| s != 0 && !seen[s])
 }
 
 /// Every state can be reached from state 0.
@@ -46,12 +41,7 @@ fn cycling(t: &Table, s: usize) -> bool
 fn first_cycling(t: &Table) -> Option<usize>
     ensures { MatchOption result (Synchronising t.now) (First (Cycling t.now)) }
 {
-    for s in 0..t.declaration.state_count {
-        if cycling(t, s) {
-            return Some(s);
-        }
-    }
-    None
+    (0..t.states().len()).find(|&s| cycling(t, s))
 }
 
 /// No state lies on a one-way cycle.

@@ -1,7 +1,7 @@
 // A contract as tables: what it declares, and where each state goes by each message.
-ghost use Rattle.std.specs.Prelude.{◌≡◌, ◌<◌, ◌≤◌, [], None, slice_index_or};
-ghost use Rattle.contracts.specs.Moves.{Declared};
-ghost use Rattle.contracts.specs.Numbers.{no_name, quiet};
+ghost use Rattle.std.specs.Prelude.{◌≡◌, ◌≤◌, length};
+ghost use Rattle.grammar.specs.Rows.{row_items};
+ghost use Rattle.contracts.specs.Moves.{Declared, target_in};
 
 use crate::declaration::{Declaration, Message};
 use words::name::Name;
@@ -12,34 +12,30 @@ use words::name::Name;
 pub struct Table {
     pub declaration: Declaration,
     pub moves: [[Option<u8>; 16]; 16],
-    ghost few_messages: { declaration.message_count ≤ 16 },
-    ghost few_states: { declaration.state_count ≤ 16 },
-    ghost declared: { Declared declaration.message_count declaration.state_count moves },
+    ghost declared: { Declared (length (row_items declaration.messages)) (length (row_items declaration.states)) moves },
 }
 
 impl Table {
-    /// Where the state `s` goes by the message `m`.
+    /// Where the state `s` goes by the message `m`; none where it has no such move, or there is no such state or message.
     pub(crate) fn target(&self, s: usize, m: usize) -> Option<u8>
-        requires state { s < 16 }
-        requires message { m < 16 }
-        ensures { result ≡ slice_index_or (slice_index_or self.now.moves s []) m None }
+        ensures { result ≡ target_in self.now.moves s m }
     {
-        self.moves[s][m]
+        *self.moves.get(s)?.get(m)?
     }
 
-    /// The message `m`.
-    pub(crate) fn message(&self, m: usize) -> Message
-        requires { m < 16 }
-        ensures { result ≡ slice_index_or self.now.declaration.messages m quiet }
+    /// The messages that the contract declares.
+    pub(crate) fn messages(&self) -> &[Message]
+        ensures { result.now ≡ row_items self.now.declaration.messages }
     {
-        self.declaration.messages[m]
+        self.declaration.messages.as_slice()
     }
 
-    /// The name of the state `s`.
-    pub(crate) fn state(&self, s: usize) -> Name
-        requires { s < 16 }
-        ensures { result ≡ slice_index_or self.now.declaration.states s no_name }
+    #[tactic(auto, using(crate::proofs::Targets::row_small))]
+    /// The names of the states that the contract declares.
+    pub(crate) fn states(&self) -> &[Name]
+        ensures names { result.now ≡ row_items self.now.declaration.states }
+        ensures few { length result.now ≤ 16 }
     {
-        self.declaration.states[s]
+        self.declaration.states.as_slice()
     }
 }

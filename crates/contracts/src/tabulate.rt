@@ -1,13 +1,16 @@
 // From moves as they are written to tables.
-ghost use Rattle.std.specs.Prelude.{◌≡◌, ℕ, ◌<◌, length, take};
+ghost use Rattle.std.specs.Prelude.{◌≡◌, ℕ, ◌<◌, length};
+ghost use Rattle.grammar.specs.Rows.{row_items};
 ghost use Rattle.contracts.specs.Acceptance.{Tabled};
 ghost use Rattle.contracts.specs.Moves.{Goes};
 ghost use Rattle.contracts.specs.Numbers.{written_at};
 ghost use Rattle.contracts.specs.Rules.{Never};
-ghost use Rattle.contracts.specs.Written.{Holds, Listed, Resolved, SecondMove};
+ghost use Rattle.contracts.specs.Written.{Holds, Listed, SecondMove};
 
-use crate::declaration::{Declaration, Written};
+use crate::by_numbers::ByNumbers;
+use crate::declaration::Written;
 use crate::table::Table;
+use grammar::row::Row;
 
 // The moves of the contract `c` as rows of targets.
 fn fill(moves: &[Written], c: usize) -> [[Option<u8>; 16]; 16]
@@ -17,8 +20,7 @@ fn fill(moves: &[Written], c: usize) -> [[Option<u8>; 16]; 16]
     ensures goes { (s m u : ℕ) → Listed moves.now (length moves.now) c s m u → Goes result s m u }
 {
     let mut rows = [[None; 16]; 16];
-    for k in 0..moves.len() {
-        let w = moves[k];
+    for w in moves {
         if w.contract == c {
             rows[w.state][w.message] = Some(w.target);
         }
@@ -27,30 +29,26 @@ fn fill(moves: &[Written], c: usize) -> [[Option<u8>; 16]; 16]
 }
 
 // The table of contract `c`.
-fn tabulate(declarations: &[Declaration], moves: &[Written], c: usize) -> Table
-    requires within { c < length declarations.now }
-    requires resolved { Resolved declarations.now moves.now }
-    requires once { Never (SecondMove moves.now) }
-    ensures { Holds result declarations.now moves.now c }
+fn tabulate(file: &ByNumbers, c: usize) -> Table
+    requires within { c < length file.now.declarations.now }
+    requires once { Never (SecondMove file.now.moves.now) }
+    ensures { Holds result file.now.declarations.now file.now.moves.now c }
 {
-    let declaration = declarations[c];
-    let rows = fill(moves, c);
     Table {
-        declaration,
-        moves: rows,
+        declaration: file.declarations[c],
+        moves: fill(file.moves, c),
     }
 }
 
-/// The tables of all contracts, first to last; the places behind them hold the first table again.
-pub(crate) fn tabulate_all(declarations: &[Declaration], moves: &[Written]) -> [Table; 8]
-    requires resolved { Resolved declarations.now moves.now }
-    requires once { Never (SecondMove moves.now) }
-    ensures { Tabled declarations.now moves.now (take (length declarations.now) result) }
+/// The tables of all contracts, first to last.
+pub(crate) fn tabulate_all(file: &ByNumbers) -> Row<Table, 8>
+    requires { Never (SecondMove file.now.moves.now) }
+    ensures { Tabled file.now.declarations.now file.now.moves.now (row_items result) }
 {
-    let mut tables = [tabulate(declarations, moves, 0); 8];
-    for c in 0..declarations.len() {
-        let made = tabulate(declarations, moves, c);
-        tables[c] = made;
+    let mut tables = Row::new(tabulate(file, 0));
+    // By number: a table is made of a contract's number.
+    for c in 0..file.declarations.len() {
+        let _ = tables.push(tabulate(file, c));
     }
     tables
 }

@@ -24,10 +24,7 @@ pub(crate) fn sent_mark(role: Role) -> Mark
 fn send_state(tables: &[Table], role: Role, c: usize, s: usize) -> bool
     ensures { Decides result (SendState tables.now role c s) }
 {
-    if c >= tables.len() || s >= 16 {
-        return false;
-    }
-    may_send(&tables[c], sent_mark(role), s)
+    tables.get(c).is_some_and(|t| s < t.states().len() && may_send(t, sent_mark(role), s))
 }
 
 // May this be carried: an end only in a state in which it may send?
@@ -49,12 +46,9 @@ fn sendable(tables: &[Table], p: Payload) -> bool
 fn first_silent_end(tables: &[Table], t: &Table) -> Option<usize>
     ensures { MatchOption result (Lawful tables.now t.now) (First (SilentEnd tables.now t.now)) }
 {
-    for m in 0..t.declaration.message_count {
-        if !sendable(tables, t.message(m).payload) {
-            return Some(m);
-        }
-    }
-    None
+    t.messages()
+        .iter()
+        .position(|message| !sendable(tables, message.payload))
 }
 
 /// An end that a message carries may send in the state that is declared.

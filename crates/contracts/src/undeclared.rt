@@ -1,11 +1,10 @@
 // Finds the first name of a file that is not declared in its family.
-ghost use Rattle.std.specs.Prelude.{ℕ, ◌<◌, map, length, slice_index_or};
-ghost use Rattle.syntax.specs.Trees.{declares, no_move};
-ghost use Rattle.contracts.specs.Names.{Earlier, FirstOrNone, HeadsMissing, MessagesMissing, MoveMissing, MovesMissing, Sized};
+ghost use Rattle.std.specs.Prelude.{◌<◌, length};
+ghost use Rattle.syntax.specs.Trees.{parts, Ranged};
+ghost use Rattle.contracts.specs.Names.{Earlier, FirstOrNone, HeadsMissing, MessagesMissing, MoveMissing, MovesMissing};
 
-use crate::names::messages;
 use crate::number::{message_of, payload, target_of};
-use syntax::tree::{Head, Message, MoveEntry};
+use syntax::tree::{Message, MoveEntry, Tree};
 use words::name::Ident;
 
 // Of two names the one that stands first in the text.
@@ -21,51 +20,44 @@ pub(crate) fn earlier(a: Option<Ident>, b: Option<Ident>) -> Option<Ident>
 }
 
 // The first name in the payloads of these messages that is not declared.
-fn in_messages(heads: &[Head], messages: &[Message]) -> Option<Ident>
-    requires { Sized (map declares heads.now) }
-    ensures { FirstOrNone (MessagesMissing (map declares heads.now) messages.now) result }
+fn in_messages(tree: &Tree, messages: &[Message]) -> Option<Ident>
+    ensures { FirstOrNone (MessagesMissing (parts tree.now).heads messages.now) result }
 {
     let mut first = None;
     for message in messages {
         let carried = message.payload;
-        first = earlier(first, payload(heads, carried).err());
+        first = earlier(first, payload(tree, carried).err());
     }
     first
 }
 
 // The first name in all payloads that is not declared.
-pub(crate) fn in_heads(heads: &[Head]) -> Option<Ident>
-    requires { Sized (map declares heads.now) }
-    ensures { FirstOrNone (HeadsMissing (map declares heads.now)) result }
+pub(crate) fn in_heads(tree: &Tree) -> Option<Ident>
+    ensures { FirstOrNone (HeadsMissing (parts tree.now).heads) result }
 {
     let mut first = None;
-    for head in heads {
-        first = earlier(first, in_messages(heads, messages(head)));
+    for head in tree.heads() {
+        first = earlier(first, in_messages(tree, head.messages.as_slice()));
     }
     first
 }
 
 // The first name of a move that is not declared.
-fn in_move(heads: &[Head], entry: MoveEntry) -> Option<Ident>
-    requires sized { Sized (map declares heads.now) }
-    requires owner { entry.contract < length heads.now }
-    ensures { FirstOrNone (MoveMissing (map declares heads.now) entry) result }
+fn in_move(tree: &Tree, entry: MoveEntry) -> Option<Ident>
+    requires { entry.contract < length (parts tree.now).heads }
+    ensures { FirstOrNone (MoveMissing (parts tree.now).heads entry) result }
 {
-    earlier(
-        message_of(heads, entry).err(),
-        target_of(heads, entry).err(),
-    )
+    earlier(message_of(tree, entry).err(), target_of(tree, entry).err())
 }
 
-// The first name of these moves that is not declared.
-pub(crate) fn in_moves(heads: &[Head], moves: &[MoveEntry]) -> Option<Ident>
-    requires sized { Sized (map declares heads.now) }
-    requires owners { (i : ℕ) → i < length moves.now → (slice_index_or moves.now i no_move).contract < length heads.now }
-    ensures { FirstOrNone (MovesMissing (map declares heads.now) moves.now) result }
+// The first name of a move of the file that is not declared.
+pub(crate) fn in_moves(tree: &Tree) -> Option<Ident>
+    requires { Ranged (parts tree.now) }
+    ensures { FirstOrNone (MovesMissing (parts tree.now).heads (parts tree.now).moves) result }
 {
     let mut first = None;
-    for entry in moves {
-        first = earlier(first, in_move(heads, *entry));
+    for entry in tree.moves() {
+        first = earlier(first, in_move(tree, *entry));
     }
     first
 }

@@ -1,9 +1,10 @@
-use Rattle.std.proofs.Common.{◌≡◌, ℕ, ◌<◌, map, length, get_or}
-use Rattle.syntax.specs.Trees.{declares}
+use Rattle.std.proofs.Common.{get_or}
+use Rattle.grammar.specs.Rows.{row_items}
+use Rattle.syntax.specs.Trees.{parts}
 use Rattle.contracts.specs.Names.{no_message}
 use Rattle.contracts.specs.Numbers.{MessageAs, quiet}
+use Rattle.contracts.proofs.Numbered.{EachBelow}
 use Rattle.contracts.proofs.declared.all_messages.Given as goal
 
-abbrev pub invariant-loop-m : goal.invariant-loop-m
-invariant-loop-m l =
-    (length l.all ≡ 16) × ((i : ℕ) → i < l.m → MessageAs (map declares l.heads) (get_or l.written i no_message) (get_or l.all i quiet))
+abbrev pub invariant-loop-next : goal.invariant-loop-next
+invariant-loop-next l = EachBelow (λ m y. MessageAs (parts l.tree).heads (get_or l.written m no_message) y) quiet (row_items l.all) l.next-index

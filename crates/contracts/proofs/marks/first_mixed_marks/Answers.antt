@@ -1,9 +1,7 @@
-use Rattle.std.proofs.Common.{arith, below_more}
-use Rattle.std.proofs.lemmas.Bool.{false≢true}
+use Rattle.std.proofs.Common.{length, rules, tests}
+use Rattle.contracts.specs.Written.{MixedMarks}
+use Rattle.contracts.proofs.Least.{first_found}
 use Rattle.contracts.proofs.marks.first_mixed_marks.Goals as goal
 
-pub loop-i-preserved : goal.loop-i-preserved
-loop-i-preserved c = below_more _ _ c.loop-i.invariant (λ h. false≢true (c.if-mixes_marks.ensures.1 h))
-
 pub returns : goal.returns
-returns c i h = c.loop-i.invariant i (omega (arith, h.0)) h
+returns c = first_found (length c.args.moves.now) (MixedMarks c.args.moves.now) (λ i h. h.0) _ _ _ c.find.ensures.ran (λ x q k. search (rules, tests)) (λ x q k. search (rules, tests))

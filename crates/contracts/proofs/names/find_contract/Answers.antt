@@ -1,17 +1,14 @@
-use Rattle.std.proofs.Common.{sym, ap, ◌∙◌, rules, below_more}
-use Rattle.std.proofs.lemmas.List.{length-map, get_or_read}
+use Rattle.std.proofs.Common.{◌≡◌, arith, rules, tests}
+use Rattle.std.proofs.lemmas.Iterator.{IsFirst-from_position, YieldsList-from_slice}
+use Rattle.syntax.specs.declared.tree.Head.{Head}
+use Rattle.contracts.proofs.Least.{weaker}
 use Rattle.contracts.proofs.Lookups.{blank, contract-named, contract_read}
 use Rattle.contracts.proofs.names.find_contract.Goals as goal
 
-pub returns-then-same : goal.returns-then-same
-returns-then-same c =
-    let here = get_or_read c.args.heads.now c.loop-k.k _ c.loop-k-test.true c.index-heads-k.is blank in
-    contract-named _ _ _ c.loop-k-test.true (ap (λ h. h.ident.name) (sym here) ∙ c.same.ensures.0 c.if-same.true)
-
-pub loop-k-preserved : goal.loop-k-preserved
-loop-k-preserved c =
-    let here = get_or_read c.args.heads.now c.loop-k.k _ c.loop-k-test.true c.index-heads-k.is blank in
-    below_more _ _ c.loop-k.invariant (λ h. let e = ap (λ h. h.ident.name) here ∙ (contract_read _ _ _ h).1 in search rules)
-
 pub returns : goal.returns
-returns c = search (rules, length-map)
+returns c =
+    weaker c.position.result
+    (IsFirst-from_position _ _ _ (λ (h : Head). h.ident.name ≡ c.args.name) (λ (h : Head). h.ident.name ≡ c.args.name → ⊥) c.position.ensures.ran
+    (YieldsList-from_slice c.args.heads.now cc) (λ x q k. search (rules, tests)) (λ x q k. search (rules, tests)))
+    (λ none k h. let e = contract_read _ _ _ h in none k blank (omega arith) e.0 e.1)
+    (λ k h. contract-named _ _ _ h.0 (h.1 blank))

@@ -1,11 +1,11 @@
-use Rattle.std.proofs.Common.{refl, ap, ◌∙◌}
-use Rattle.std.proofs.lemmas.List.{get_or_read}
-use Rattle.grammar.specs.Rows.{row_items}
-use Rattle.contracts.proofs.Lookups.{blank, message-named, message_read}
+use Rattle.std.proofs.Common.{ℕ, List, subst, MatchOption}
+use Rattle.syntax.specs.declared.tree.Message.{Message}
+use Rattle.contracts.specs.Names.{MessageIn}
+use Rattle.contracts.proofs.Lookups.{messages_read, named_or}
 use Rattle.contracts.proofs.number.message_of.Goals as goal
 
-pub returns-in-Some : goal.returns-in-Some
-returns-in-Some c = message-named c.args.heads.now c.args.entry.contract _ _ _ (c.messages.ensures ∙ ap (λ h. row_items h.messages) (get_or_read c.args.heads.now c.args.entry.contract _ c.requires c.index-heads-entry.is blank)) c.in-Some.ensures
-
-pub returns-in-None : goal.returns-in-None
-returns-in-None c = (refl, λ m h. c.in-None.ensures m (message_read c.args.heads.now c.args.entry.contract _ _ _ (c.messages.ensures ∙ ap (λ h. row_items h.messages) (get_or_read c.args.heads.now c.args.entry.contract _ c.requires c.index-heads-entry.is blank)) h))
+pub returns : goal.returns
+returns c =
+    let Found : List Message → Type 0 = λ ms. MatchOption c.find_message.result ((m : ℕ) → MessageIn ms c.args.entry.step.message.name m → ⊥) (MessageIn ms c.args.entry.step.message.name) in
+    named_or _ _ _ _ _ c.ok_or.ensures.value
+    (subst Found (messages_read c.args.tree.now _ c.args.entry.contract _ c.heads.ensures c.index-heads-entry.is _ c.requires c.as_slice.ensures) c.find_message.ensures)

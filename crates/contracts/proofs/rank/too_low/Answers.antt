@@ -1,7 +1,6 @@
-use Rattle.std.proofs.Common.{arith}
-use Rattle.contracts.proofs.Targets.{source_below}
+use Rattle.std.proofs.Common.{rules, tests}
+use Rattle.contracts.proofs.Least.{weaker}
 use Rattle.contracts.proofs.rank.too_low.Goals as goal
 
 pub returns : goal.returns
-returns c s u (m, mark, goes) =
-    c.loop-s.invariant s (omega (arith, source_below c.args.t.now s m u goes)) u (m, mark, goes)
+returns c = weaker c.find_move.result c.find_move.ensures (λ h s u e. let k = h s u e in search (rules, tests)) (λ v h. let k = h.3 in (h.0, h.1, h.2, search (rules, tests)))

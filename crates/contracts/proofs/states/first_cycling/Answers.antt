@@ -1,12 +1,11 @@
-use Rattle.std.proofs.Common.{Some, arith, below_more}
-use Rattle.std.proofs.lemmas.Bool.{false≢true}
+use Rattle.std.proofs.Common.{length, Some, ap, arith, rules, tests}
+use Rattle.contracts.specs.Rules.{Cycling}
+use Rattle.contracts.proofs.Least.{first_found, weaker}
 use Rattle.contracts.proofs.Targets.{moves_below}
 use Rattle.contracts.proofs.states.first_cycling.Goals as goal
 
-pub loop-s-preserved : goal.loop-s-preserved
-loop-s-preserved c = below_more _ _ c.loop-s.invariant (λ h. false≢true (c.if-cycling.ensures.1 h))
-
 pub returns : goal.returns
-returns c d s (n, p) =
-    let l = moves_below c.args.t.now (Some d) p in
-    c.loop-s.invariant s (omega arith) (l, (d, (n, p)))
+returns c =
+    weaker c.find.result
+    (first_found (length c.states.result.now) (Cycling c.args.t.now) (λ s h. omega (arith, ap length c.states.ensures.names, h.0)) _ _ _ c.find.ensures.ran (λ x q k. search (rules, tests)) (λ x q k. search (rules, tests)))
+    (λ none d s h. none s (moves_below c.args.t.now (Some d) h.1, (d, h))) (λ s h. h)

@@ -1,19 +1,22 @@
-use Rattle.std.proofs.Common.{arith}
+use Rattle.std.proofs.Common.{sym, subst, arith}
+use Rattle.contracts.specs.Acceptance.{Tabled}
 use Rattle.contracts.proofs.Gathered.{accepted-from}
 use Rattle.contracts.proofs.Tabulated.{each-inhabited, each-positional, marked_from}
 use Rattle.contracts.proofs.set.accept.accept.Goals as goal
 
 pub gather-requires : goal.gather-requires
 gather-requires c =
-    let marked = marked_from c.args.declarations.now c.args.moves.now c.in_default.ensures c.in_default-first_second_move.ensures c.in_default-first_mixed_marks.ensures in
+    let marked = marked_from c.args.file.now.declarations.now c.args.file.now.moves.now c.in_default.ensures c.in_default-first_second_move.ensures c.in_default-first_mixed_marks.ensures in
+    let tabled = subst (Tabled c.args.file.now.declarations.now c.args.file.now.moves.now) (sym c.as_slice.ensures) c.tabulate_all.ensures in
     record {
-      some = omega (arith, c.tabulate_all-tables.ensures.count);
-      few = omega (arith, c.tabulate_all-tables.ensures.count);
-      inhabited = each-inhabited c.args.declarations.now c.args.moves.now c.requires marked _ c.tabulate_all-tables.ensures;
-      positional = each-positional c.args.declarations.now c.args.moves.now c.requires marked _ c.tabulate_all-tables.ensures;
+      some = omega (arith, tabled.count, c.args.file.now.resolved.some);
+      few = omega (arith, tabled.count, c.args.file.now.resolved.few);
+      inhabited = each-inhabited c.args.file.now.declarations.now c.args.file.now.moves.now c.args.file.now.resolved marked _ tabled;
+      positional = each-positional c.args.file.now.declarations.now c.args.file.now.moves.now c.args.file.now.resolved marked _ tabled;
     }
 
 pub returns : goal.returns
 returns c =
-    let marked = marked_from c.args.declarations.now c.args.moves.now c.in_default.ensures c.in_default-first_second_move.ensures c.in_default-first_mixed_marks.ensures in
-    accepted-from c.args.declarations.now c.args.moves.now marked _ c.tabulate_all-tables.ensures c.gather.result c.gather.ensures
+    let marked = marked_from c.args.file.now.declarations.now c.args.file.now.moves.now c.in_default.ensures c.in_default-first_second_move.ensures c.in_default-first_mixed_marks.ensures in
+    let tabled = subst (Tabled c.args.file.now.declarations.now c.args.file.now.moves.now) (sym c.as_slice.ensures) c.tabulate_all.ensures in
+    accepted-from c.args.file.now.declarations.now c.args.file.now.moves.now marked _ tabled c.gather.result c.gather.ensures

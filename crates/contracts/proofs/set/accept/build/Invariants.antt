@@ -1,6 +1,7 @@
-use Rattle.std.proofs.Common.{◌≡◌, length, take}
+use Rattle.std.proofs.Common.{◌≡◌, take}
+use Rattle.grammar.specs.Rows.{row_items}
 use Rattle.contracts.specs.Acceptance.{tables_of}
 use Rattle.contracts.proofs.set.accept.build.Given as goal
 
-abbrev pub invariant-loop-k : goal.invariant-loop-k
-invariant-loop-k l = (length l.contracts ≡ 8) × (tables_of (take l.k l.contracts) ≡ take l.k l.tables)
+abbrev pub invariant-loop-table : goal.invariant-loop-table
+invariant-loop-table l = tables_of (row_items l.contracts) ≡ take l.table-index l.tables
