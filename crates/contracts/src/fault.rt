@@ -27,13 +27,13 @@ pub enum RuleFault {
     SilentEnd(Span),
 }
 
-impl RuleFault {
-    /// What the station shows of a rule fault: 8 to 14 in layer 3, or what it shows of a grammar fault.
-    pub fn report(self) -> Report
-        ensures { result ≡ rule_report self }
-    {
-        match self {
-            RuleFault::Grammar(fault) => fault.report(),
+/// What the station shows of a rule fault: 8 to 14 in layer 3, or what it shows of a grammar fault.
+impl From<RuleFault> for Report {
+    ghost from_gives = { λ f r. r ≡ rule_report f };
+
+    fn from(fault: RuleFault) -> Report {
+        match fault {
+            RuleFault::Grammar(fault) => fault.into(),
             RuleFault::Undeclared(span) => span.report(8, 3),
             RuleFault::WrongMark(span) => span.report(9, 3),
             RuleFault::SecondMove(span) => span.report(10, 3),

@@ -10,7 +10,7 @@ use words::name::{Ident, Name};
 pub(crate) fn find_contract(heads: &[Head], name: Name) -> Option<usize>
     ensures { MatchOption result ((k : ℕ) → ContractNamed (map declares heads.now) name k → ⊥) (ContractNamed (map declares heads.now) name) }
 {
-    heads.iter().position(|head| head.ident.name.same(name))
+    heads.iter().position(|head| head.ident.name == name)
 }
 
 // The number of a message of this name.
@@ -19,14 +19,14 @@ pub(crate) fn find_message(messages: &[Message], name: Name) -> Option<usize>
 {
     messages
         .iter()
-        .position(|message| message.ident.name.same(name))
+        .position(|message| message.ident.name == name)
 }
 
 // The number of a state of this name.
 pub(crate) fn find_state(states: &[Ident], name: Name) -> Option<usize>
     ensures { MatchOption result ((s : ℕ) → StateIn states.now name s → ⊥) (StateIn states.now name) }
 {
-    states.iter().position(|state| state.name.same(name))
+    states.iter().position(|state| state.name == name)
 }
 
 // The numbers of a contract of one name and of its state of the other.
@@ -35,7 +35,7 @@ pub(crate) fn find_end(heads: &[Head], contract: Name, state: Name) -> Option<(u
 {
     for (k, head) in heads.iter().enumerate() {
         let own = head.ident.name;
-        if own.same(contract) {
+        if own == contract {
             if let Some(u) = find_state(head.states.as_slice(), state) {
                 return Some((k, u));
             }

@@ -22,6 +22,6 @@ impl ContractSet {
     pub fn find(&self, family: Family, name: Name) -> Option<usize>
         ensures answer { Found (size_in (tables_in self.now) family) (name_in (tables_in self.now) family) name result }
     {
-        (0..16).find(|&i| self.name(family, i).is_some_and(|x| x.same(name)))
+        (0..16).find(|&i| self.name(family, i) == Some(name))
     }
 }
