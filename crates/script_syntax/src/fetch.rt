@@ -1,5 +1,5 @@
 // The words that the grammar of script files asks for: each function fetches a word, and refuses one that is not allowed there.
-ghost use Rattle.std.specs.Prelude.{◌≡◌, ◌+◌, ◌≤◌, pos, negsuc, OnOk};
+ghost use Rattle.std.specs.Prelude.{◌≡◌, ◌+◌, ◌≤◌, true, false, pos, negsuc, is_some, IfOk, OnOk};
 ghost use Rattle.words.specs.Stream.{bytes_in};
 ghost use Rattle.grammar.specs.Feeds.{left, fetched, Moved};
 ghost use Rattle.script_syntax.specs.Grammar.{distance_of};
@@ -16,7 +16,7 @@ use words::fault::Span;
 use words::word::{Keyword, Mark, Word};
 
 // The first `process` of a file.
-pub(crate) fn process(feed: &mut Feed<'_>) -> Result<(), GrammarFault>
+pub(crate) fn process_word(feed: &mut Feed<'_>) -> Result<(), GrammarFault>
     ensures head { result ≡ fetched in_process feed.old }
     ensures rest { Moved feed.old feed.new }
     ensures left { bytes_in (left feed.new) ≤ bytes_in (left feed.old) }
@@ -32,7 +32,7 @@ pub(crate) fn process(feed: &mut Feed<'_>) -> Result<(), GrammarFault>
 }
 
 // Whether one more process follows; else the text ends.
-pub(crate) fn process_or_end(feed: &mut Feed<'_>) -> Result<bool, GrammarFault>
+pub(crate) fn process_word_or_end(feed: &mut Feed<'_>) -> Result<bool, GrammarFault>
     ensures head { result ≡ fetched in_process_or_end feed.old }
     ensures rest { Moved feed.old feed.new }
     ensures left { bytes_in (left feed.new) ≤ bytes_in (left feed.old) }
@@ -131,6 +131,7 @@ pub(crate) fn statement_or_end(
     ensures rest { Moved feed.old feed.new }
     ensures left { bytes_in (left feed.new) ≤ bytes_in (left feed.old) }
     ensures spent { OnOk result (1 + bytes_in (left feed.new) ≤ bytes_in (left feed.old)) }
+    ensures room { IfOk result (λ o. is_some o ≡ true → full ≡ false) }
 {
     let word = feed.next()?;
     match word {

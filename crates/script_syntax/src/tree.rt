@@ -64,12 +64,11 @@ pub enum Statement {
     },
 }
 
-/// A process: its name and its instructions, numbered as they appear.
+/// A process: its name and its instructions, at most 64, numbered as they appear.
 #[derive(Clone, Copy)]
 pub struct Process {
     pub ident: Ident,
-    pub count: usize,
-    pub statements: [Statement; 64],
+    pub statements: Row<Statement, 64>,
 }
 
 /// The processes of a script file, numbered as they appear.

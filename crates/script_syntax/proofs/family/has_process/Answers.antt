@@ -1,15 +1,10 @@
-use Rattle.std.proofs.Common.{◌≡◌, ℕ, map, sym, refl, ◌∙◌, arith}
-use Rattle.script_syntax.specs.Trees.{process_of}
-use Rattle.grammar.proofs.Names.{known_here, known_more}
+use Rattle.std.proofs.Common.{rules}
+use Rattle.std.proofs.lemmas.Iterator.{cases_from_any, YieldsList-from_slice}
+use borrow.Author.Tests.{tests}
+use Rattle.script_syntax.proofs.Families.{Bears, known_if}
 use Rattle.script_syntax.proofs.family.has_process.Goals as goal
 
-pub returns-then-same : goal.returns-then-same
-returns-then-same c =
-    sym (known_here (λ x. x.ident) (λ l. map (λ x. x.ident) (map process_of l)) (λ _ _. refl) c.args.ident c.args.all.now c.loop-x.x-index _ c.loop-x-test.true (c.same.ensures.0 c.if-same.true))
-    ∙ c.loop-x.invariant
-
-pub loop-x-preserved : goal.loop-x-preserved
-loop-x-preserved c =
-    sym (known_more (λ x. x.ident) (λ l. map (λ x. x.ident) (map process_of l)) (λ _ _. refl) c.args.ident c.args.all.now c.loop-x.x-index _ c.loop-x-test.true
-    (λ e. let t = c.same.ensures.1 e in let f = c.if-same.false in let z : ◌≡◌ {A = ℕ} 0 1 = cc in omega arith))
-    ∙ c.loop-x.invariant
+pub returns : goal.returns
+returns c =
+    known_if c.args.ident c.args.all.now c.any.result
+    (cases_from_any _ _ _ (Bears c.args.ident) (λ x. Bears c.args.ident x → ⊥) c.any.ensures.ran (YieldsList-from_slice c.args.all.now cc) (λ x q k. search (rules, tests)) (λ x q k. search (rules, tests)))
