@@ -1,5 +1,6 @@
 -- Whether a name stands among those of processes.
 use Rattle.std.proofs.Common.{◌≡◌, ◌<◌, Bool, true, false, List, [], map, length, ℕ, get_or, sym, ap, ◌∙◌, refl, arith}
+use Rattle.std.proofs.lemmas.List.{get_or_read}
 use Rattle.std.specs.Bool.{MatchBool}
 use Rattle.std.specs.List.{AllWithin, HoldsAt}
 use lib.ListN.{length-map, get_or-map}
@@ -19,6 +20,10 @@ blank = record { ident = no_ident; statements = record { items = []; len = 0; fe
 
 pub process_at : (ps : List Process) (i : ℕ) → get_or (processes_of ps) i no_process ≡ process_of (get_or ps i blank)
 process_at ps i = get_or-map process_of ps i blank
+
+-- a process that was read at a place
+pub read_at : (ps : List Process) (i : ℕ) (x : Process) → i < length ps → x ≡ get_or ps i x → get_or (processes_of ps) i no_process ≡ process_of x
+read_at ps i x l e = process_at ps i ∙ sym (ap process_of (get_or_read ps i x l e blank))
 
 module _ (n : Ident) (ps : List Process) where
   abbrev idents : List Ident

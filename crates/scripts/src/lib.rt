@@ -3,11 +3,11 @@
 
 pub mod check;
 pub mod fault;
-mod front;
 pub mod instruction;
 mod judge;
 mod jumps;
 mod payloads;
+mod position;
 pub mod refusal;
 mod resolution;
 mod resolve;
