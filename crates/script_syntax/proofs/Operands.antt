@@ -75,22 +75,24 @@ module _ (from : Source) (p : Progress) (op : Opcode) (xs : List Sign) (ks : Lis
 pub moved : (a b : Feed) → Moved a b → (r : At) → run ask (source_in a) r (tail_of (left a)) ≡ reading r b
 moved a b m r = ap (λ t. run ask (source_in a) r t) (sym m.tail) ∙ ap (λ f. run ask f r (left b)) (sym m.source)
 
+-- an operand of the kind i that says x leads from a to b
+pub record Step (i : Kind) (x : Sign) (a b : Feed) : Type 0 where
+  pub goes : (p : Progress) (op : Opcode) (xs : List Sign) (ks : List Kind) → reading (q.operands p op xs (i ∷ ks)) a ≡ reading (q.operands p op (xs ++ x ∷ []) ks) b
+
 -- a name that was read
-pub by_name : {a b : Feed} {n : Ident} → Ok n ≡ fetched in_name a → Moved a b → (p : Progress) (op : Opcode) (xs : List Sign) (ks : List Kind)
-    → reading (q.operands p op xs (j.name ∷ ks)) a ≡ reading (q.operands p op (xs ++ s.Name n ∷ []) ks) b
-by_name {a} {b} {n} e m p op xs ks = named (source_in a) p op xs ks n (left a) e ∙ moved a b m _
+pub by_name : {a b : Feed} {n : Ident} → Ok n ≡ fetched in_name a → Moved a b → Step j.name (s.Name n) a b
+by_name {a} {b} {n} e m = record { goes = λ p op xs ks. named (source_in a) p op xs ks n (left a) e ∙ moved a b m _ }
 
 -- a number that was read, of which x is kept
 pub record Counted {X : Type 0} (f : Numeral → X) (low high : ℤ) (x : X) (a b : Feed) : Type 0 where
   pub n : Numeral
   pub is : x ≡ f n
-  pub goes : (p : Progress) (op : Opcode) (xs : List Sign) (ks : List Kind)
-      → reading (q.operands p op xs (j.number low high ∷ ks)) a ≡ reading (q.operands p op (xs ++ s.Number n ∷ []) ks) b
+  pub step : Step (j.number low high) (s.Number n) a b
 
 pub by_number : {X : Type 0} {f : Numeral → X} {low high : ℤ} {x : X} {a b : Feed} → Ok x ≡ ok f (looked (number_in low high) a) → Moved a b → Counted f low high x a b
 by_number {X} {f} {low} {high} {x} {a} {b} e m =
     let w = within f x (looked (number_in low high) a) e in
-    record { n = w.0; is = w.2; goes = λ p op xs ks. numbered (source_in a) p op xs ks low high w.0 (left a) w.1 ∙ moved a b m _ }
+    record { n = w.0; is = w.2; step = record { goes = λ p op xs ks. numbered (source_in a) p op xs ks low high w.0 (left a) w.1 ∙ moved a b m _ } }
 
 -- all operands were read
 pub closes : (a : Feed) (p : Progress) (op : Opcode) (xs : List Sign) → reading (q.operands p op xs []) a ≡ reading (q.closing p (typed op xs)) a

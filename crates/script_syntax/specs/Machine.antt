@@ -10,16 +10,18 @@
 --   ask q              the words that may stand next
 --   turned p o         where an instruction word leads, or the end of a process
 --   reading q from     what becomes of the file of which the feed has the rest, at q
-use Rattle.std.specs.Prelude.{cond, List, [], ◌∷◌, ◌++◌, map, length, ℤ, Some, None, Option, Result, nat_le}
+--   Completes op a r b the operands of op are read off the feed a, and r is the instruction with them, or the fault; b is a after them
+use Rattle.std.specs.Prelude.{◌≤◌, cond, List, [], ◌∷◌, ◌++◌, map, length, ℤ, Some, None, Option, Result, nat_le}
 use Rattle.words.specs.declared.name.Ident.{Ident}
 use Rattle.words.specs.declared.word.Keyword.TheVariants as k
 use Rattle.words.specs.declared.word.Mark.TheVariants as m
 use Rattle.words.specs.Signs.{Sign, Numeral}
 use Rattle.words.specs.Signs as s
+use Rattle.words.specs.Stream.{bytes_in}
 use Rattle.grammar.specs.declared.fault.GrammarFault.{GrammarFault}
 use Rattle.grammar.specs.declared.feed.Feed.{Feed}
 use Rattle.grammar.specs.Feeds.{left, source_in}
-use Rattle.grammar.specs.Table.{Check, fine, crowded, out_of_range, go, new, accept, Alt, key, keys, mark, name, number, end, opt, admission, run}
+use Rattle.grammar.specs.Table.{Check, fine, crowded, out_of_range, go, new, accept, Alt, key, keys, mark, name, number, end, opt, admission, run, Goes}
 use Rattle.script_syntax.specs.declared.opcode.Opcode.{Opcode}
 use Rattle.script_syntax.specs.declared.tree.Statement.{Statement}
 use Rattle.script_syntax.specs.Numbers.{value_of, is_in_range}
@@ -87,3 +89,7 @@ turned p None = more (ended p)
 
 abbrev pub reading : At → Feed → Result (List ProcessParts) GrammarFault
 reading q from = run ask (source_in from) q (left from)
+
+pub record Completes (op : Opcode) (a : Feed) (r : Result Statement GrammarFault) (b : Feed) : Type 0 where
+  pub goes : (p : Progress) → Goes (reading (operands p op [] (kinds op)) a) r (λ x. reading (closing p x) b)
+  pub fewer : bytes_in (left b) ≤ bytes_in (left a)
