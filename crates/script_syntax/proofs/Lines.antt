@@ -19,14 +19,14 @@ use Rattle.script_syntax.specs.Machine.{Progress, reading}
 use Rattle.script_syntax.specs.Machine as q
 use Rattle.script_syntax.specs.Numbers.{natural_of, value_of}
 use Rattle.script_syntax.specs.Opcodes.{Kind, kinds}
-use Rattle.script_syntax.specs.Picks.{looked, number_in, ok}
+use Rattle.script_syntax.specs.Picks.{Counts}
 use Rattle.script_syntax.proofs.Operands.{Step, by_name, by_number, closes}
 
-abbrev Small : ℕ → Feed → ℕ → Type 0
-Small most a x = Ok x ≡ ok (λ n. natural_of (value_of n.bytes)) (looked (number_in (pos 0) (pos most)) a)
+abbrev Small : ℕ → Feed → ℕ → Feed → Type 0
+Small most a x b = Counts (λ n. natural_of (value_of n.bytes)) (pos 0) (pos most) a (Ok x) b
 
-abbrev Far : Feed → Distance → Type 0
-Far a x = Ok x ≡ ok distance_of (looked (number_in (negsuc 126) (pos 127)) a)
+abbrev Far : Feed → Distance → Feed → Type 0
+Far a x b = Counts distance_of (negsuc 126) (pos 127) a (Ok x) b
 
 abbrev Called : Feed → Ident → Type 0
 Called a n = Ok n ≡ fetched in_name a
@@ -52,74 +52,74 @@ module _ (op : Opcode) (p : Progress) (y : Statement) where
       → reading (q.operands p op [] (i ∷ j ∷ k ∷ l ∷ [])) a ≡ reading (q.closing p y) f
   four {i} {j} {k} {l} {x} {z} {w} {v} {a} {b} {c} {d} {f} s t u r e = s.goes p op _ _ ∙ t.goes p op _ _ ∙ u.goes p op _ _ ∙ r.goes p op _ _ ∙ last (x ∷ z ∷ w ∷ v ∷ []) f e
 
-pub new_read : (op : Opcode) (p : Progress) (a b : Feed) (x : ℕ) → op ≡ o.New → Small 7 a x → Moved a b → Read op p a (t.New x) b
-new_read op p a b x k h0 m0 =
-    let g0 = by_number h0 m0 in
+pub new_read : (op : Opcode) (p : Progress) (a b : Feed) (x : ℕ) → op ≡ o.New → Small 7 a x b → Read op p a (t.New x) b
+new_read op p a b x k h0 =
+    let g0 = by_number h0 in
     let same : typed o.New (s.Number g0.n ∷ []) ≡ t.New x = cc in
     rw k (one o.New p (t.New x) g0.step same)
 
-pub put_read : (op : Opcode) (p : Progress) (a b c d : Feed) (x : ℕ) (y : ℕ) (z : ℕ) → op ≡ o.Put → Small 7 a x → Moved a b → Small 63 b y → Moved b c → Small 255 c z → Moved c d → Read op p a (t.Put x y z) d
-put_read op p a b c d x y z k h0 m0 h1 m1 h2 m2 =
-    let g0 = by_number h0 m0 in
-    let g1 = by_number h1 m1 in
-    let g2 = by_number h2 m2 in
+pub put_read : (op : Opcode) (p : Progress) (a b c d : Feed) (x : ℕ) (y : ℕ) (z : ℕ) → op ≡ o.Put → Small 7 a x b → Small 63 b y c → Small 255 c z d → Read op p a (t.Put x y z) d
+put_read op p a b c d x y z k h0 h1 h2 =
+    let g0 = by_number h0 in
+    let g1 = by_number h1 in
+    let g2 = by_number h2 in
     let same : typed o.Put (s.Number g0.n ∷ s.Number g1.n ∷ s.Number g2.n ∷ []) ≡ t.Put x y z = cc in
     rw k (three o.Put p (t.Put x y z) g0.step g1.step g2.step same)
 
-pub free_read : (op : Opcode) (p : Progress) (a b : Feed) (x : ℕ) → op ≡ o.Free → Small 7 a x → Moved a b → Read op p a (t.Free x) b
-free_read op p a b x k h0 m0 =
-    let g0 = by_number h0 m0 in
+pub free_read : (op : Opcode) (p : Progress) (a b : Feed) (x : ℕ) → op ≡ o.Free → Small 7 a x b → Read op p a (t.Free x) b
+free_read op p a b x k h0 =
+    let g0 = by_number h0 in
     let same : typed o.Free (s.Number g0.n ∷ []) ≡ t.Free x = cc in
     rw k (one o.Free p (t.Free x) g0.step same)
 
-pub open_read : (p : Progress) (a b c d : Feed) (x : Ident) (y : ℕ) (z : ℕ) → Called a x → Moved a b → Small 7 b y → Moved b c → Small 7 c z → Moved c d → Read o.Open p a (t.Open x y z) d
-open_read p a b c d x y z h0 m0 h1 m1 h2 m2 =
-    let g1 = by_number h1 m1 in
-    let g2 = by_number h2 m2 in
+pub open_read : (p : Progress) (a b c d : Feed) (x : Ident) (y : ℕ) (z : ℕ) → Called a x → Moved a b → Small 7 b y c → Small 7 c z d → Read o.Open p a (t.Open x y z) d
+open_read p a b c d x y z h0 m0 h1 h2 =
+    let g1 = by_number h1 in
+    let g2 = by_number h2 in
     let same : typed o.Open (s.Name x ∷ s.Number g1.n ∷ s.Number g2.n ∷ []) ≡ t.Open x y z = cc in
     three o.Open p (t.Open x y z) (by_name h0 m0) g1.step g2.step same
 
-pub close_read : (op : Opcode) (p : Progress) (a b : Feed) (x : ℕ) → op ≡ o.Close → Small 7 a x → Moved a b → Read op p a (t.Close x) b
-close_read op p a b x k h0 m0 =
-    let g0 = by_number h0 m0 in
+pub close_read : (op : Opcode) (p : Progress) (a b : Feed) (x : ℕ) → op ≡ o.Close → Small 7 a x b → Read op p a (t.Close x) b
+close_read op p a b x k h0 =
+    let g0 = by_number h0 in
     let same : typed o.Close (s.Number g0.n ∷ []) ≡ t.Close x = cc in
     rw k (one o.Close p (t.Close x) g0.step same)
 
-pub send_read : (p : Progress) (a b c d : Feed) (x : ℕ) (y : Ident) (z : Ident) → Small 7 a x → Moved a b → Called b y → Moved b c → Called c z → Moved c d → Read o.Send p a (t.Send x y z) d
-send_read p a b c d x y z h0 m0 h1 m1 h2 m2 =
-    let g0 = by_number h0 m0 in
+pub send_read : (p : Progress) (a b c d : Feed) (x : ℕ) (y : Ident) (z : Ident) → Small 7 a x b → Called b y → Moved b c → Called c z → Moved c d → Read o.Send p a (t.Send x y z) d
+send_read p a b c d x y z h0 h1 m1 h2 m2 =
+    let g0 = by_number h0 in
     let same : typed o.Send (s.Number g0.n ∷ s.Name y ∷ s.Name z ∷ []) ≡ t.Send x y z = cc in
     three o.Send p (t.Send x y z) g0.step (by_name h1 m1) (by_name h2 m2) same
 
-pub pass_read : (p : Progress) (a b c d e : Feed) (x : ℕ) (y : Ident) (z : Ident) (w : ℕ) → Small 7 a x → Moved a b → Called b y → Moved b c → Called c z → Moved c d → Small 7 d w → Moved d e → Read o.Pass p a (t.Pass x y z w) e
-pass_read p a b c d e x y z w h0 m0 h1 m1 h2 m2 h3 m3 =
-    let g0 = by_number h0 m0 in
-    let g3 = by_number h3 m3 in
+pub pass_read : (p : Progress) (a b c d e : Feed) (x : ℕ) (y : Ident) (z : Ident) (w : ℕ) → Small 7 a x b → Called b y → Moved b c → Called c z → Moved c d → Small 7 d w e → Read o.Pass p a (t.Pass x y z w) e
+pass_read p a b c d e x y z w h0 h1 m1 h2 m2 h3 =
+    let g0 = by_number h0 in
+    let g3 = by_number h3 in
     let same : typed o.Pass (s.Number g0.n ∷ s.Name y ∷ s.Name z ∷ s.Number g3.n ∷ []) ≡ t.Pass x y z w = cc in
     four o.Pass p (t.Pass x y z w) g0.step (by_name h1 m1) (by_name h2 m2) g3.step same
 
-pub receive_read : (op : Opcode) (p : Progress) (a b c : Feed) (x : ℕ) (y : ℕ) → op ≡ o.Receive → Small 7 a x → Moved a b → Small 7 b y → Moved b c → Read op p a (t.Receive x y) c
-receive_read op p a b c x y k h0 m0 h1 m1 =
-    let g0 = by_number h0 m0 in
-    let g1 = by_number h1 m1 in
+pub receive_read : (op : Opcode) (p : Progress) (a b c : Feed) (x : ℕ) (y : ℕ) → op ≡ o.Receive → Small 7 a x b → Small 7 b y c → Read op p a (t.Receive x y) c
+receive_read op p a b c x y k h0 h1 =
+    let g0 = by_number h0 in
+    let g1 = by_number h1 in
     let same : typed o.Receive (s.Number g0.n ∷ s.Number g1.n ∷ []) ≡ t.Receive x y = cc in
     rw k (two o.Receive p (t.Receive x y) g0.step g1.step same)
 
-pub case_read : (p : Progress) (a b c d : Feed) (x : Ident) (y : Ident) (z : Distance) → Called a x → Moved a b → Called b y → Moved b c → Far c z → Moved c d → Read o.Case p a (t.Case x y z) d
-case_read p a b c d x y z h0 m0 h1 m1 h2 m2 =
-    let g2 = by_number h2 m2 in
+pub case_read : (p : Progress) (a b c d : Feed) (x : Ident) (y : Ident) (z : Distance) → Called a x → Moved a b → Called b y → Moved b c → Far c z d → Read o.Case p a (t.Case x y z) d
+case_read p a b c d x y z h0 m0 h1 m1 h2 =
+    let g2 = by_number h2 in
     let same : typed o.Case (s.Name x ∷ s.Name y ∷ s.Number g2.n ∷ []) ≡ t.Case x y z = cc in
     three o.Case p (t.Case x y z) (by_name h0 m0) (by_name h1 m1) g2.step same
 
-pub lost_read : (op : Opcode) (p : Progress) (a b : Feed) (x : Distance) → op ≡ o.Lost → Far a x → Moved a b → Read op p a (t.Lost x) b
-lost_read op p a b x k h0 m0 =
-    let g0 = by_number h0 m0 in
+pub lost_read : (op : Opcode) (p : Progress) (a b : Feed) (x : Distance) → op ≡ o.Lost → Far a x b → Read op p a (t.Lost x) b
+lost_read op p a b x k h0 =
+    let g0 = by_number h0 in
     let same : typed o.Lost (s.Number g0.n ∷ []) ≡ t.Lost x = cc in
     rw k (one o.Lost p (t.Lost x) g0.step same)
 
-pub jump_read : (op : Opcode) (p : Progress) (a b : Feed) (x : Distance) → op ≡ o.Jump → Far a x → Moved a b → Read op p a (t.Jump x) b
-jump_read op p a b x k h0 m0 =
-    let g0 = by_number h0 m0 in
+pub jump_read : (op : Opcode) (p : Progress) (a b : Feed) (x : Distance) → op ≡ o.Jump → Far a x b → Read op p a (t.Jump x) b
+jump_read op p a b x k h0 =
+    let g0 = by_number h0 in
     let same : typed o.Jump (s.Number g0.n ∷ []) ≡ t.Jump x = cc in
     rw k (one o.Jump p (t.Jump x) g0.step same)
 

@@ -15,7 +15,7 @@ use Rattle.script_syntax.specs.Numbers.{value_of, is_in_range}
 use Rattle.script_syntax.specs.Opcodes.{Kind}
 use Rattle.script_syntax.specs.Opcodes as j
 use Rattle.script_syntax.specs.Grammar.{typed}
-use Rattle.script_syntax.specs.Picks.{looked_at, looked, number_in, ok}
+use Rattle.script_syntax.specs.Picks.{Counts, looked_at, looked, number_in, ok}
 use Rattle.script_syntax.specs.Machine.{At, Progress, ask, reading}
 use Rattle.script_syntax.specs.Machine as q
 
@@ -89,10 +89,10 @@ pub record Counted {X : Type 0} (f : Numeral → X) (low high : ℤ) (x : X) (a 
   pub is : x ≡ f n
   pub step : Step (j.number low high) (s.Number n) a b
 
-pub by_number : {X : Type 0} {f : Numeral → X} {low high : ℤ} {x : X} {a b : Feed} → Ok x ≡ ok f (looked (number_in low high) a) → Moved a b → Counted f low high x a b
-by_number {X} {f} {low} {high} {x} {a} {b} e m =
-    let w = within f x (looked (number_in low high) a) e in
-    record { n = w.0; is = w.2; step = record { goes = λ p op xs ks. numbered (source_in a) p op xs ks low high w.0 (left a) w.1 ∙ moved a b m _ } }
+pub by_number : {X : Type 0} {f : Numeral → X} {low high : ℤ} {x : X} {a b : Feed} → Counts f low high a (Ok x) b → Counted f low high x a b
+by_number {X} {f} {low} {high} {x} {a} {b} c =
+    let w = within f x (looked (number_in low high) a) c.head in
+    record { n = w.0; is = w.2; step = record { goes = λ p op xs ks. numbered (source_in a) p op xs ks low high w.0 (left a) w.1 ∙ moved a b c.rest _ } }
 
 -- all operands were read
 pub closes : (a : Feed) (p : Progress) (op : Opcode) (xs : List Sign) → reading (q.operands p op xs []) a ≡ reading (q.closing p (typed op xs)) a

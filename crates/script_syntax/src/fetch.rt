@@ -4,7 +4,7 @@ ghost use Rattle.words.specs.Stream.{bytes_in};
 ghost use Rattle.grammar.specs.Feeds.{left, fetched, Moved};
 ghost use Rattle.script_syntax.specs.Grammar.{distance_of};
 ghost use Rattle.script_syntax.specs.Numbers.{natural_of, value_of};
-ghost use Rattle.script_syntax.specs.Picks.{in_process, in_process_or_end, looked, number_in as number_as, ok, statement_in};
+ghost use Rattle.script_syntax.specs.Picks.{Counts, in_process, in_process_or_end, looked, statement_in};
 
 use crate::number::value;
 use crate::opcode::Opcode;
@@ -49,10 +49,8 @@ pub(crate) fn process_word_or_end(feed: &mut Feed<'_>) -> Result<bool, GrammarFa
 
 // A number from `low` to `high`, with its place.
 fn number_in(feed: &mut Feed<'_>, low: i16, high: i16) -> Result<Distance, GrammarFault>
-    ensures head { result ≡ ok distance_of (looked (number_as low high) feed.old) }
+    ensures number { Counts distance_of low high feed.old result feed.new }
     ensures range { IfOk result (λ n. (low ≤ℤ n.value) × (n.value ≤ℤ high)) }
-    ensures rest { Moved feed.old feed.new }
-    ensures left { bytes_in (left feed.new) ≤ bytes_in (left feed.old) }
 {
     let word = feed.next()?;
     match word {
@@ -75,9 +73,7 @@ fn number_in(feed: &mut Feed<'_>, low: i16, high: i16) -> Result<Distance, Gramm
 
 // A number from 0 to `most`.
 pub(crate) fn small(feed: &mut Feed<'_>, most: u8) -> Result<u8, GrammarFault>
-    ensures head { result ≡ ok (λ n. natural_of (value_of n.bytes)) (looked (number_as (pos 0) (pos most)) feed.old) }
-    ensures rest { Moved feed.old feed.new }
-    ensures left { bytes_in (left feed.new) ≤ bytes_in (left feed.old) }
+    ensures { Counts (λ n. natural_of (value_of n.bytes)) (pos 0) (pos most) feed.old result feed.new }
 {
     let number = number_in(feed, 0, i16::from(most))?;
     Ok(number.value as u8)
@@ -85,9 +81,7 @@ pub(crate) fn small(feed: &mut Feed<'_>, most: u8) -> Result<u8, GrammarFault>
 
 // A distance, from −127 to 127.
 pub(crate) fn distance(feed: &mut Feed<'_>) -> Result<Distance, GrammarFault>
-    ensures head { result ≡ ok distance_of (looked (number_as (negsuc 126) (pos 127)) feed.old) }
-    ensures rest { Moved feed.old feed.new }
-    ensures left { bytes_in (left feed.new) ≤ bytes_in (left feed.old) }
+    ensures { Counts distance_of (negsuc 126) (pos 127) feed.old result feed.new }
 {
     number_in(feed, -127, 127)
 }
