@@ -2,7 +2,7 @@
 --   Small, Far, Called     the number, the distance or the name that stands next
 --   Read                   the operands of an instruction lead to its end
 --   one, two, three, four  as many operands, one after the other
-use Rattle.std.proofs.Common.{◌≡◌, ℕ, List, [], ◌∷◌, ◌++◌, pos, negsuc, Ok, ap, ◌∙◌}
+use Rattle.std.proofs.Common.{◌≡◌, ℕ, List, [], ◌∷◌, pos, negsuc, Ok, ap, ◌∙◌}
 use Rattle.words.specs.declared.name.Ident.{Ident}
 use Rattle.words.specs.Signs.{Sign}
 use Rattle.words.specs.Signs as s

@@ -1,5 +1,5 @@
 -- An operand that is read leads on to the operands behind it.
-use Rattle.std.proofs.Common.{◌≡◌, ℕ, Bool, true, false, cond, List, [], ◌∷◌, ◌++◌, length, ℤ, Ok, Err, Result, sym, refl, ap, ◌∙◌, arith}
+use Rattle.std.proofs.Common.{◌≡◌, Bool, true, false, cond, List, [], ◌∷◌, ◌++◌, length, ℤ, Ok, Err, Result, sym, refl, ap, ◌∙◌}
 use Rattle.words.specs.declared.fault.Source.{Source}
 use Rattle.words.specs.declared.name.Ident.{Ident}
 use Rattle.words.specs.Signs.{Sign, Word, Numeral}
@@ -22,27 +22,27 @@ use Rattle.script_syntax.specs.Machine as q
 -- what stands in an answer
 within : {X Y : Type 0} (f : X → Y) (y : Y) (o : Result X GrammarFault) → Ok y ≡ ok f o → (x : X) × (o ≡ Ok x) × (y ≡ f x)
 within f y (Ok x) e = (x, refl, cc)
-within f y (Err g) e = let z : ◌≡◌ {A = ℕ} 0 1 = cc in absurd (omega arith)
+within f y (Err g) e = absurd (cc)
 
 module _ (from : Source) (p : Progress) (op : Opcode) (xs : List Sign) (ks : List Kind) where
   abbrev Onward : Kind → Sign → Stream → Type 0
   Onward i x t = run ask from (q.operands p op xs (i ∷ ks)) t ≡ run ask from (q.operands p op (xs ++ x ∷ []) ks) (tail_of t)
 
   named : (n : Ident) (t : Stream) → Ok n ≡ picked from in_name (head_of from t) → Onward j.name (s.Name n) t
-  named n (stop i) e = let z : ◌≡◌ {A = ℕ} 0 1 = cc in absurd (omega arith)
-  named n (bad i m) e = let z : ◌≡◌ {A = ℕ} 0 1 = cc in absurd (omega arith)
+  named n (stop i) e = absurd (cc)
+  named n (bad i m) e = absurd (cc)
   named n (word w r) e = at_sign w.sign refl
     where
       at_sign : (x : Sign) → w.sign ≡ x → Onward j.name (s.Name n) (word w r)
-      at_sign (s.Key y) d = let z : ◌≡◌ {A = ℕ} 0 1 = cc in absurd (omega arith)
-      at_sign (s.Mark y) d = let z : ◌≡◌ {A = ℕ} 0 1 = cc in absurd (omega arith)
+      at_sign (s.Key y) d = absurd (cc)
+      at_sign (s.Mark y) d = absurd (cc)
       at_sign (s.Name m) d =
           let f : Ok n ≡ Ok m = e ∙ ap (λ v. picked from in_name (Ok (record { place = w.place; sign = v }))) d in
           let g : n ≡ m = cc in
           ap (λ v. after from (among (ask (q.operands p op xs (j.name ∷ ks))) v) w (λ b. run ask from b r)) d
           ∙ ap (λ v. run ask from (q.operands p op (xs ++ s.Name v ∷ []) ks) r) (sym g)
-      at_sign (s.Number m) d = let z : ◌≡◌ {A = ℕ} 0 1 = cc in absurd (omega arith)
-      at_sign s.End d = let z : ◌≡◌ {A = ℕ} 0 1 = cc in absurd (omega arith)
+      at_sign (s.Number m) d = absurd (cc)
+      at_sign s.End d = absurd (cc)
 
   abbrev outside : Numeral → GrammarFault
   outside m = fault.OutOfRange (record { source = from; place = m.place; len = length m.bytes })
@@ -51,8 +51,8 @@ module _ (from : Source) (p : Progress) (op : Opcode) (xs : List Sign) (ks : Lis
   Numbered low high w v = number_in low high from (record { place = w.place; sign = v })
 
   numbered : (low high : ℤ) (n : Numeral) (t : Stream) → looked_at (number_in low high from) (head_of from t) ≡ Ok n → Onward (j.number low high) (s.Number n) t
-  numbered low high n (stop i) e = let z : ◌≡◌ {A = ℕ} 0 1 = cc in absurd (omega arith)
-  numbered low high n (bad i m) e = let z : ◌≡◌ {A = ℕ} 0 1 = cc in absurd (omega arith)
+  numbered low high n (stop i) e = absurd (cc)
+  numbered low high n (bad i m) e = absurd (cc)
   numbered low high n (word w r) e = at_sign w.sign refl
     where
       in_range_lem : (m : Numeral) (b : Bool) → is_in_range low high (value_of m.bytes) ≡ b → w.sign ≡ s.Number m → Onward (j.number low high) (s.Number n) (word w r)
@@ -63,14 +63,14 @@ module _ (from : Source) (p : Progress) (op : Opcode) (xs : List Sign) (ks : Lis
           ∙ rw g refl ∙ ap (λ v. run ask from (q.operands p op (xs ++ s.Number v ∷ []) ks) r) h
       in_range_lem m false g d =
           let f : Numbered low high w w.sign ≡ Err (outside m) = ap (Numbered low high w) d ∙ ap (λ v. cond v (Ok m) (Err (outside m))) g in
-          let z : ◌≡◌ {A = ℕ} 0 1 = cc in absurd (omega arith)
+          absurd (cc)
 
       at_sign : (x : Sign) → w.sign ≡ x → Onward (j.number low high) (s.Number n) (word w r)
-      at_sign (s.Key y) d = let z : ◌≡◌ {A = ℕ} 0 1 = cc in absurd (omega arith)
-      at_sign (s.Mark y) d = let z : ◌≡◌ {A = ℕ} 0 1 = cc in absurd (omega arith)
-      at_sign (s.Name m) d = let z : ◌≡◌ {A = ℕ} 0 1 = cc in absurd (omega arith)
+      at_sign (s.Key y) d = absurd (cc)
+      at_sign (s.Mark y) d = absurd (cc)
+      at_sign (s.Name m) d = absurd (cc)
       at_sign (s.Number m) d = in_range_lem m (is_in_range low high (value_of m.bytes)) refl d
-      at_sign s.End d = let z : ◌≡◌ {A = ℕ} 0 1 = cc in absurd (omega arith)
+      at_sign s.End d = absurd (cc)
 
 pub moved : (a b : Feed) → Moved a b → (r : At) → run ask (source_in a) r (tail_of (left a)) ≡ reading r b
 moved a b m r = ap (λ t. run ask (source_in a) r t) (sym m.tail) ∙ ap (λ f. run ask f r (left b)) (sym m.source)
