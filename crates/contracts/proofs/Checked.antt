@@ -12,11 +12,12 @@ use Rattle.std.proofs.lemmas.Bool.{cases_lt}
 use Rattle.words.specs.declared.fault.Source.TheVariants.{Contracts}
 use Rattle.words.specs.Reading.{too_large}
 use Rattle.words.specs.Stream.{words_of}
-use Rattle.syntax.specs.declared.fault.GrammarFault.{GrammarFault}
-use Rattle.syntax.specs.declared.fault.GrammarFault.TheVariants as g
+use Rattle.grammar.specs.declared.fault.GrammarFault.{GrammarFault}
+use Rattle.grammar.specs.declared.fault.GrammarFault.TheVariants as g
 use Rattle.syntax.specs.declared.tree.Tree.{Tree}
 use Rattle.syntax.specs.Grammar.{Stated}
-use Rattle.syntax.specs.Laws.{Exact, Right, signs}
+use Rattle.grammar.specs.Laws.{signs}
+use Rattle.syntax.specs.Laws.{Exact, Right}
 use Rattle.syntax.specs.Trees.{ContractTree, Parts, StateTree, head_tree, parts_of}
 use Rattle.syntax.proofs.Distinct.{distinct}
 use Rattle.contracts.specs.declared.fault.RuleFault.{RuleFault}

@@ -7,7 +7,7 @@ use Rattle.std.proofs.Common.{◌≡◌, ℕ, ◌<◌, List, length, refl, ap, a
 use Rattle.syntax.specs.declared.tree.Head.{Head}
 use Rattle.syntax.specs.declared.tree.MoveEntry.{MoveEntry}
 use Rattle.syntax.specs.declared.tree.Tree.{Tree}
-use Rattle.syntax.specs.Rows.{row_items}
+use Rattle.grammar.specs.Rows.{row_items}
 use Rattle.syntax.specs.Trees.{Parts, parts, Ranged}
 use Rattle.contracts.specs.declared.broken.Broken.{Broken}
 use Rattle.contracts.specs.declared.broken.Broken.TheVariants as b

@@ -1,30 +1,21 @@
 -- Looking a name up among those that are declared.
---   take_min       a count above the length counts as the length
 --   head_at_lem        what contract k declares, as the code reads it
 --   messages-at, states-at    its messages and its states, as the code reads them
 --   contract-named, message-named, state-named    a name that the code reads is one of the file
 --   contract_read, message_read, state_read       a name of the file is one that the code reads
-use Rattle.std.proofs.Common.{◌≡◌, ℕ, zero, suc, ◌<◌, ◌≤◌, min, List, [], ◌∷◌, map, length, get_or, take, sym, refl, ap, ◌∙◌, subst, inl, inr, arith}
-use native.Mathlib.Nat.{min-eq_left, min-eq_right}
-use Rattle.std.proofs.lemmas.Bool.{cases_lt}
-use Rattle.std.proofs.lemmas.List.{length-map, take_all}
+use Rattle.std.proofs.Common.{◌≡◌, ℕ, zero, suc, ◌<◌, ◌≤◌, List, [], ◌∷◌, map, length, get_or, sym, refl, ap, ◌∙◌, subst, arith}
+use Rattle.std.proofs.lemmas.List.{length-map}
 use Rattle.words.specs.declared.name.Name.{Name}
 use Rattle.words.specs.declared.name.Ident.{Ident}
 use Rattle.syntax.specs.declared.tree.Message.{Message}
 use Rattle.syntax.specs.declared.tree.Head.{Head}
-use Rattle.syntax.specs.Trees.{declares, no_ident}
+use Rattle.grammar.specs.Families.{no_ident}
+use Rattle.syntax.specs.Trees.{declares}
 use Rattle.contracts.specs.Names.{ContractNamed, head_at, MessageIn, MessageNamed, Sized, StateIn, StateNamed}
-
-pub take_min : {X : Type 0} (xs : List X) (n m c : ℕ) → length xs ≡ n → m ≡ min c n → take m xs ≡ take c xs
-take_min xs n m c l e =
-    elim (cases_lt c n) [
-      | inl h ↦ let w : c ≤ n = omega arith in ap (λ k. take k xs) (e ∙ min-eq_left w)
-      | inr h ↦ let low : length xs ≤ m = rw (e, min-eq_right h) (omega arith) in let high : length xs ≤ c = omega arith in take_all m xs low ∙ sym (take_all c xs high)
-    ]
 
 -- what the code reads past the last contract
 abbrev pub blank : Head
-blank = record { ident = no_ident; message_count = 0; messages = []; state_count = 0; states = [] }
+blank = record { ident = no_ident; messages = record { items = []; len = 0; few = omega arith }; states = record { items = []; len = 0; few = omega arith } }
 
 pub head_at_lem : (hs : List Head) (k : ℕ) → head_at (map declares hs) k ≡ declares (get_or hs k blank)
 head_at_lem [] k = refl

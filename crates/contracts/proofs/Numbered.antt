@@ -13,8 +13,8 @@ use Rattle.words.specs.declared.name.Ident.{Ident}
 use Rattle.syntax.specs.declared.tree.Head.{Head}
 use Rattle.syntax.specs.declared.tree.MoveEntry.{MoveEntry}
 use Rattle.syntax.specs.declared.tree.Tree.{Tree}
-use Rattle.syntax.specs.declared.row.Row.{Row}
-use Rattle.syntax.specs.Rows.{row_items}
+use Rattle.grammar.specs.declared.row.Row.{Row}
+use Rattle.grammar.specs.Rows.{row_items}
 use Rattle.syntax.specs.Trees.{declares, HeadTree, no_move, Parts, parts, Ranged}
 use Rattle.contracts.specs.Names.{as_parts, head_at, HeadsMissing, MessagesMissing, Sized}
 use Rattle.contracts.proofs.Lookups.{blank, head_at_lem}

@@ -15,7 +15,8 @@ use Rattle.syntax.specs.declared.tree.Mark.{Mark}
 use Rattle.syntax.specs.declared.tree.Payload.{Payload as PayloadTree}
 use Rattle.syntax.specs.declared.tree.Payload.TheVariants as t
 use Rattle.syntax.specs.declared.tree.Message.{Message as MessageTree}
-use Rattle.syntax.specs.Trees.{Distinct, HeadTree, no_head, no_ident, no_move, Once, Parts}
+use Rattle.grammar.specs.Families.{no_ident, Once}
+use Rattle.syntax.specs.Trees.{Distinct, HeadTree, no_head, no_move, Parts}
 use Rattle.contracts.specs.declared.broken.Broken.{Broken}
 use Rattle.contracts.specs.declared.broken.Broken.TheVariants as b
 use Rattle.contracts.specs.declared.declaration.Declaration.{Declaration}

@@ -7,10 +7,11 @@ use Rattle.words.specs.declared.fault.Source.TheVariants.{Contracts}
 use Rattle.words.specs.Reading.{too_large}
 use Rattle.words.specs.Signs.{Word}
 use Rattle.words.specs.Stream.{stop, words_of}
-use Rattle.syntax.specs.declared.fault.GrammarFault.{GrammarFault}
-use Rattle.syntax.specs.declared.fault.GrammarFault.TheVariants as g
+use Rattle.grammar.specs.declared.fault.GrammarFault.{GrammarFault}
+use Rattle.grammar.specs.declared.fault.GrammarFault.TheVariants as g
 use Rattle.syntax.specs.Grammar.{Spells}
-use Rattle.syntax.specs.Laws.{joins, signs, Clean, Right}
+use Rattle.grammar.specs.Laws.{joins, signs}
+use Rattle.syntax.specs.Laws.{Clean, Right}
 use Rattle.syntax.specs.Trees.{ContractTree, parts_of}
 use Rattle.contracts.specs.declared.fault.RuleFault.{RuleFault}
 use Rattle.contracts.specs.declared.fault.RuleFault.TheVariants as f

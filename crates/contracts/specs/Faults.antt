@@ -2,7 +2,7 @@
 --   rule_report f     what a rule fault shows: its grammar fault's report, or 8 to 14 with layer 3
 use Rattle.words.specs.declared.fault.Report.{Report}
 use Rattle.words.specs.Faults.{report_at}
-use Rattle.syntax.specs.Faults.{grammar_report}
+use Rattle.grammar.specs.Faults.{grammar_report}
 use Rattle.contracts.specs.declared.fault.RuleFault.{RuleFault}
 use Rattle.contracts.specs.declared.fault.RuleFault.TheVariants.{Grammar, Undeclared, WrongMark, SecondMove, MixedMarks, Unreachable, OneWayCycle, SilentEnd}
 

@@ -12,7 +12,8 @@ use Rattle.std.specs.Prelude.{◌≡◌, ℕ, ◌<◌, List, length, get_or, Ok,
 use Rattle.words.specs.declared.name.Ident.{Ident}
 use Rattle.words.specs.declared.fault.Source.TheVariants.{Contracts}
 use Rattle.words.specs.declared.fault.Span.{Span}
-use Rattle.syntax.specs.Trees.{Parts, no_ident, no_move}
+use Rattle.grammar.specs.Families.{no_ident}
+use Rattle.syntax.specs.Trees.{Parts, no_move}
 use Rattle.contracts.specs.declared.broken.Broken.{Broken}
 use Rattle.contracts.specs.declared.broken.Broken.TheVariants as b
 use Rattle.contracts.specs.declared.declaration.Declaration.{Declaration}

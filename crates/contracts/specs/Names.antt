@@ -30,7 +30,8 @@ use Rattle.syntax.specs.declared.tree.Payload.TheVariants.{Nothing, Block, End}
 use Rattle.syntax.specs.declared.tree.Message.{Message}
 use Rattle.syntax.specs.declared.tree.MoveEntry.{MoveEntry}
 use Rattle.syntax.specs.declared.tree.Head.{Head}
-use Rattle.syntax.specs.Trees.{declares, Parts, HeadTree, no_ident, no_head, no_move}
+use Rattle.grammar.specs.Families.{no_ident}
+use Rattle.syntax.specs.Trees.{declares, Parts, HeadTree, no_head, no_move}
 
 -- what stands past the last message
 abbrev pub no_message : Message

@@ -17,7 +17,8 @@ use Rattle.syntax.specs.declared.tree.Payload.{Payload as PayloadTree}
 use Rattle.syntax.specs.declared.tree.Payload.TheVariants as t
 use Rattle.syntax.specs.declared.tree.Message.{Message as MessageTree}
 use Rattle.syntax.specs.declared.tree.MoveEntry.{MoveEntry}
-use Rattle.syntax.specs.Trees.{Parts, HeadTree, no_ident, no_move}
+use Rattle.grammar.specs.Families.{no_ident}
+use Rattle.syntax.specs.Trees.{Parts, HeadTree, no_move}
 use Rattle.contracts.specs.declared.declaration.Payload.{Payload}
 use Rattle.contracts.specs.declared.declaration.Payload.TheVariants.{Nothing, Block, End}
 use Rattle.contracts.specs.declared.declaration.Message.{Message}

@@ -1,6 +1,6 @@
 // What the contracts of a file declare, by numbers.
 ghost use Rattle.std.specs.Prelude.{◌<◌, ◌≤◌, map, length, MatchResult};
-ghost use Rattle.syntax.specs.Rows.{row_items};
+ghost use Rattle.grammar.specs.Rows.{row_items};
 ghost use Rattle.syntax.specs.Trees.{declares};
 ghost use Rattle.contracts.specs.Names.{HeadsMissing, MessagesMissing, PayloadMissing, Sized};
 ghost use Rattle.contracts.specs.Numbers.{Declared, DeclaredAs, MessageAs, MessagesAs, StatesAs};
@@ -8,7 +8,7 @@ ghost use Rattle.contracts.specs.Numbers.{Declared, DeclaredAs, MessageAs, Messa
 use crate::declaration::{Declaration, Message, Payload};
 use crate::names::{messages, states};
 use crate::number::payload;
-use syntax::row::Row;
+use grammar::row::Row;
 use syntax::tree::{Head, Mark, Message as MessageTree};
 use words::name::{Ident, Name};
 

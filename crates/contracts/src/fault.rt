@@ -3,7 +3,7 @@ ghost use Rattle.std.specs.Prelude.{◌≡◌};
 ghost use Rattle.contracts.specs.Faults.{rule_report};
 ghost use Rattle.contracts.specs.declared.fault.RuleFault.TheVariants.{Grammar};
 
-use syntax::fault::GrammarFault;
+use grammar::fault::GrammarFault;
 use words::fault::{Report, Span};
 
 /// A text that is no contract file, or breaks a rule on contracts.

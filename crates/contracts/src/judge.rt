@@ -1,6 +1,7 @@
 // From the tree of a contract file to an accepted set, or the fault that is first by the rules.
 ghost use Rattle.std.specs.Prelude.{◌≡◌, ◌<◌, map, length, get_or, slice_index_or};
-ghost use Rattle.syntax.specs.Trees.{declares, no_ident, parts, Ranged};
+ghost use Rattle.grammar.specs.Families.{no_ident};
+ghost use Rattle.syntax.specs.Trees.{declares, parts, Ranged};
 ghost use Rattle.contracts.specs.Judgement.{fault_from, Inhabited, Judged, span_of as span_at, Within};
 ghost use Rattle.contracts.specs.Names.{as_parts, head_at, no_message};
 

@@ -1,31 +1,23 @@
 // Finds names among those that a file declares.
-ghost use Rattle.std.specs.Prelude.{◌≡◌, ℕ, ◌<◌, map, take, MatchOption};
+ghost use Rattle.std.specs.Prelude.{◌≡◌, ℕ, ◌<◌, map, MatchOption};
 ghost use Rattle.syntax.specs.Trees.{declares};
 ghost use Rattle.contracts.specs.Names.{ContractNamed, EndNamed, MessageIn, StateIn};
 
 use syntax::tree::{Head, Message};
 use words::name::{Ident, Name};
 
-// The first elements, as many as counted, or all where there are fewer.
-fn front<T>(items: &[T], count: usize) -> &[T]
-    ensures { result.now ≡ take count items.now }
-{
-    let n = count.min(items.len());
-    &items[..n]
-}
-
 // The messages that a contract declares.
 pub(crate) fn messages(head: &Head) -> &[Message]
     ensures { result.now ≡ (declares head.now).messages }
 {
-    front(&head.messages, head.message_count)
+    head.messages.as_slice()
 }
 
 // The names of the states that a contract declares.
 pub(crate) fn states(head: &Head) -> &[Ident]
     ensures { result.now ≡ (declares head.now).states }
 {
-    front(&head.states, head.state_count)
+    head.states.as_slice()
 }
 
 // The number of a contract of this name.

@@ -1,6 +1,6 @@
 // A contract file by numbers, or its first name that is not declared.
 ghost use Rattle.std.specs.Prelude.{ℕ, ◌<◌, ◌≤◌, map, length, MatchResult, slice_index_or};
-ghost use Rattle.syntax.specs.Rows.{row_items};
+ghost use Rattle.grammar.specs.Rows.{row_items};
 ghost use Rattle.syntax.specs.Trees.{declares, no_move, parts, Ranged};
 ghost use Rattle.contracts.specs.Names.{as_parts, FirstOrNone, FirstUnresolved, MoveMissing, MovesMissing, Sized, Unresolved};
 ghost use Rattle.contracts.specs.Numbers.{Moved, Numbers, WrittenAs};
@@ -9,7 +9,7 @@ use crate::declaration::{Declaration, Written};
 use crate::declared::declarations;
 use crate::number::{message_of, target_of};
 use crate::undeclared::{earlier, in_heads, in_moves};
-use syntax::row::Row;
+use grammar::row::Row;
 use syntax::tree::{Head, Mark, MoveEntry, Tree};
 use words::name::Ident;
 

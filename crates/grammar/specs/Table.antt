@@ -14,6 +14,7 @@
 --   picked from f h        what f reads off a fetched word h, or the fault
 --   Goes o r onward        a part was read: the text comes out as o, and so it does from where the part ends
 use Rattle.std.specs.Prelude.{◌≡◌, ℕ, Bool, true, false, cond, ◌&&◌, List, [], ◌∷◌, length, Some, None, Ok, Err, Option, Result, ◌==◌, nat_le}
+use Rattle.std.specs.List.{list_any}
 use Rattle.std.specs.Str.{bytes_eq}
 use Rattle.words.specs.declared.name.Name.{Name as NameBytes}
 use Rattle.words.specs.declared.name.Ident.{Ident}
@@ -99,8 +100,7 @@ abbrev pub same_name : NameBytes → NameBytes → Bool
 same_name a b = a.len == b.len && bytes_eq a.bytes b.bytes
 
 abbrev pub known : Ident → List Ident → Bool
-known n [] = false
-known n (x ∷ xs) = cond (same_name x.name n.name) true (known n xs)
+known n ns = list_any (λ x. same_name x.name n.name) ns
 
 pub data Check : Type 0 where
   fine : Check

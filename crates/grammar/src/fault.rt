@@ -28,13 +28,13 @@ impl From<WordFault> for GrammarFault {
     }
 }
 
-impl GrammarFault {
-    /// The fault as the station shows it: 2 and 3 with layer 1, 4 to 7 with layer 2.
-    pub fn report(self) -> Report
-        ensures { result ≡ grammar_report self }
-    {
-        match self {
-            GrammarFault::Word(fault) => fault.report(),
+/// The fault as the station shows it: 2 and 3 with layer 1, 4 to 7 with layer 2.
+impl From<GrammarFault> for Report {
+    ghost from_gives = { λ f r. r ≡ grammar_report f };
+
+    fn from(fault: GrammarFault) -> Report {
+        match fault {
+            GrammarFault::Word(fault) => fault.into(),
             GrammarFault::Unexpected(span) => span.report(4, 2),
             GrammarFault::OutOfRange(span) => span.report(5, 2),
             GrammarFault::TooMany(span) => span.report(6, 2),

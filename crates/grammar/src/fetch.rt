@@ -1,15 +1,17 @@
 // The words that every grammar asks for: each method fetches a word, and refuses one that is not allowed there.
-ghost use Rattle.std.specs.Prelude.{◌≡◌, ◌+◌, ◌≤◌, length, OnOk, ◌==◌};
+ghost use Rattle.std.specs.Prelude.{◌≡◌, ◌≤◌, map, length};
 ghost use Rattle.words.specs.Signs.{said, name_of, mark_size};
-ghost use Rattle.words.specs.Stream.{bytes_in};
-ghost use Rattle.grammar.specs.Table.{mark_code, refused, in_name};
-ghost use Rattle.grammar.specs.Feeds.{in_mark, in_name_or, left, source_in, fetched, Moved, admitted};
+ghost use Rattle.grammar.specs.Rows.{row_items};
+ghost use Rattle.grammar.specs.Table.{refused, in_name};
+ghost use Rattle.grammar.specs.Feeds.{in_keyword, in_keyword_or_end, in_keyword_or_mark, in_mark, in_name_or, source_in, Fetches, admitted};
 
+use crate::family::{Named, has_name};
 use crate::fault::GrammarFault;
 use crate::feed::Feed;
+use crate::row::Row;
 use words::fault::Span;
 use words::name::{Ident, Name};
-use words::word::{Mark, Word};
+use words::word::{Keyword, Mark, Word};
 
 // The name with these bytes at a place.
 fn ident(place: usize, bytes: &[u8]) -> Ident
@@ -22,25 +24,16 @@ fn ident(place: usize, bytes: &[u8]) -> Ident
     }
 }
 
-// Whether two marks are the same.
-fn same_mark(a: Mark, b: Mark) -> bool
-    ensures { result ≡ (mark_code a == mark_code b) }
-{
-    a == b
-}
-
 impl<'a> Feed<'a> {
     /// The fault that a word is not allowed where it stands (4).
     pub fn unexpected(&self, word: Word<'_>) -> GrammarFault
         ensures { result ≡ refused (source_in self.now) (said word.entry) }
     {
-        let place = match word {
-            Word::Keyword { place, .. } => place,
-            Word::Mark { place, .. } => place,
-            Word::Name { place, .. } => place,
-            Word::Number { place, .. } => place,
-            Word::End { place } => place,
-        };
+        let (Word::Keyword { place, .. }
+        | Word::Mark { place, .. }
+        | Word::Name { place, .. }
+        | Word::Number { place, .. }
+        | Word::End { place }) = word;
         GrammarFault::Unexpected(Span {
             source: self.source(),
             place,
@@ -50,10 +43,7 @@ impl<'a> Feed<'a> {
 
     /// The name that stands next; 4 where another word does.
     pub fn name(&mut self) -> Result<Ident, GrammarFault>
-        ensures head { result ≡ fetched in_name self.old }
-        ensures rest { Moved self.old self.new }
-        ensures left { bytes_in (left self.new) ≤ bytes_in (left self.old) }
-        ensures spent { OnOk result (1 + bytes_in (left self.new) ≤ bytes_in (left self.old)) }
+        ensures { Fetches 1 in_name self.old result self.new }
     {
         let word = self.next()?;
         match word {
@@ -64,42 +54,74 @@ impl<'a> Feed<'a> {
 
     /// The name that stands next, or none where the mark does; 4 where another word does.
     pub fn name_or(&mut self, mark: Mark) -> Result<Option<Ident>, GrammarFault>
-        ensures head { result ≡ fetched (in_name_or mark) self.old }
-        ensures rest { Moved self.old self.new }
-        ensures left { bytes_in (left self.new) ≤ bytes_in (left self.old) }
-        ensures spent { OnOk result (1 + bytes_in (left self.new) ≤ bytes_in (left self.old)) }
+        ensures { Fetches 1 (in_name_or mark) self.old result self.new }
     {
         let word = self.next()?;
         match word {
             Word::Name { place, bytes } => Ok(Some(ident(place, bytes))),
-            Word::Mark { mark: found, .. } if same_mark(mark, found) => Ok(None),
+            Word::Mark { mark: found, .. } if found == mark => Ok(None),
             _ => Err(self.unexpected(word)),
         }
     }
 
     /// Passes the mark that stands next; 4 where another word does.
     pub fn mark(&mut self, mark: Mark) -> Result<(), GrammarFault>
-        ensures head { result ≡ fetched (in_mark mark) self.old }
-        ensures rest { Moved self.old self.new }
-        ensures left { bytes_in (left self.new) ≤ bytes_in (left self.old) }
-        ensures spent { OnOk result (mark_size mark + bytes_in (left self.new) ≤ bytes_in (left self.old)) }
+        ensures { Fetches (mark_size mark) (in_mark mark) self.old result self.new }
     {
         let word = self.next()?;
         match word {
-            Word::Mark { mark: found, .. } if same_mark(mark, found) => Ok(()),
+            Word::Mark { mark: found, .. } if found == mark => Ok(()),
+            _ => Err(self.unexpected(word)),
+        }
+    }
+
+    /// Passes the reserved word that stands next; 4 where another word does.
+    pub fn keyword(&mut self, keyword: Keyword) -> Result<(), GrammarFault>
+        ensures { Fetches 1 (in_keyword keyword) self.old result self.new }
+    {
+        let word = self.next()?;
+        match word {
+            Word::Keyword { keyword: found, .. } if found == keyword => Ok(()),
+            _ => Err(self.unexpected(word)),
+        }
+    }
+
+    /// Whether the reserved word stands next, and not the text's end; 4 where another word does.
+    pub fn keyword_or_end(&mut self, keyword: Keyword) -> Result<bool, GrammarFault>
+        ensures { Fetches 0 (in_keyword_or_end keyword) self.old result self.new }
+    {
+        let word = self.next()?;
+        match word {
+            Word::Keyword { keyword: found, .. } if found == keyword => Ok(true),
+            Word::End { .. } => Ok(false),
+            _ => Err(self.unexpected(word)),
+        }
+    }
+
+    /// Whether the reserved word stands next, and not the mark; 4 where another word does.
+    pub fn keyword_or_mark(&mut self, keyword: Keyword, mark: Mark) -> Result<bool, GrammarFault>
+        ensures { Fetches 1 (in_keyword_or_mark keyword mark) self.old result self.new }
+    {
+        let word = self.next()?;
+        match word {
+            Word::Keyword { keyword: found, .. } if found == keyword => Ok(true),
+            Word::Mark { mark: found, .. } if found == mark => Ok(false),
             _ => Err(self.unexpected(word)),
         }
     }
 
     /// Whether a name may join its family: 6 where there is no room, 7 where it stands before.
-    pub fn admit(&self, ident: Ident, full: bool, seen: bool) -> Result<(), GrammarFault>
-        ensures { result ≡ admitted (source_in self.now) ident full seen }
+    pub fn admit<T: Named + Copy, const N: usize>(
+        &self,
+        ident: Ident,
+        family: &Row<T, N>,
+    ) -> Result<(), GrammarFault>
+        ensures { result ≡ admitted (source_in self.now) ident N (map T.named (row_items family.now)) }
     {
-        let span = Span {
-            source: self.source(),
-            place: ident.place,
-            len: ident.name.len,
-        };
+        let names = family.as_slice();
+        let full = names.len() >= N;
+        let seen = has_name(names, ident);
+        let span = ident.span(self.source());
         if full {
             return Err(GrammarFault::TooMany(span));
         }

@@ -1,5 +1,5 @@
 // A list of at most N elements in a table of its own.
-ghost use Rattle.std.specs.Prelude.{◌≡◌, ℕ, ◌+◌, ◌<◌, ◌≤◌, true, false, List, [], ◌∷◌, ◌++◌, length, take};
+ghost use Rattle.std.specs.Prelude.{◌≡◌, ◌≤◌, ⊤};
 
 use std::alloc::AllocError;
 
@@ -13,15 +13,22 @@ pub struct Row<T, const N: usize> {
 impl<T: Copy, const N: usize> Copy for Row<T, N> {}
 
 impl<T: Copy, const N: usize> Clone for Row<T, N> {
+    ghost is_clone = { λ r s. s ≡ r };
+
+    ghost is_infallible = { λ _. ⊤ };
+
     fn clone(&self) -> Result<Row<T, N>, AllocError> {
         Ok(*self)
     }
 }
 
 impl<T: Copy, const N: usize> Row<T, N> {
+    ghost use Rattle.std.specs.Prelude.{◌<◌, [], ◌∷◌, ◌++◌, length, Ok, Err};
+    ghost use Rattle.grammar.specs.Rows.{row_items};
+
     /// No elements; `filler` stands in the unused places.
     pub fn new(filler: T) -> Row<T, N>
-        ensures { take result.len result.items ≡ [] }
+        ensures { row_items result ≡ [] }
     {
         Row {
             items: [filler; N],
@@ -31,7 +38,7 @@ impl<T: Copy, const N: usize> Row<T, N> {
 
     /// The elements, first to last.
     pub fn as_slice(&self) -> &[T]
-        ensures { result.now ≡ take self.now.len self.now.items }
+        ensures { result.now ≡ row_items self.now }
     {
         &self.items[..self.len]
     }
@@ -43,16 +50,16 @@ impl<T: Copy, const N: usize> Row<T, N> {
         (self.len, self.items)
     }
 
-    /// One element more at the end; false, with nothing changed, where the row is full.
-    pub fn push(&mut self, x: T) -> bool
-        ensures room { length (take self.old.len self.old.items) < N → (result ≡ true) × (take self.new.len self.new.items ≡ take self.old.len self.old.items ++ x ∷ []) }
-        ensures full { N ≤ length (take self.old.len self.old.items) → (result ≡ false) × (take self.new.len self.new.items ≡ take self.old.len self.old.items) }
+    /// One element more at the end; gives it back, with nothing changed, where the row is full.
+    pub fn push(&mut self, x: T) -> Result<(), T>
+        ensures room { length (row_items self.old) < N → (result ≡ Ok tt) × (row_items self.new ≡ row_items self.old ++ x ∷ []) }
+        ensures full { N ≤ length (row_items self.old) → (result ≡ Err x) × (row_items self.new ≡ row_items self.old) }
     {
         if self.as_slice().len() >= N {
-            return false;
+            return Err(x);
         }
         self.items[self.len] = x;
         self.len += 1;
-        true
+        Ok(())
     }
 }

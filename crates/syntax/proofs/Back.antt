@@ -1,10 +1,12 @@
--- The words of a part lead over that part, so words that lead nowhere begin no file.
-use Rattle.std.proofs.Common.{◌≡◌, ℕ, List, [], ◌∷◌, ◌++◌, Some, None, Option, sym, refl, ap, ◌∙◌, append_assoc, append-nil, arith}
+-- The words of a part lead over that part.
+use Rattle.std.proofs.Common.{◌≡◌, List, [], ◌∷◌, ◌++◌, Some, Option, sym, refl, ap, ◌∙◌, append_assoc, append-nil}
 use Rattle.words.specs.declared.name.Ident.{Ident}
 use Rattle.words.specs.declared.word.Keyword.TheVariants as k
 use Rattle.words.specs.declared.word.Mark.TheVariants as m
 use Rattle.words.specs.Signs.{Sign}
 use Rattle.words.specs.Signs as s
+use Rattle.grammar.specs.Spelling.{each}
+use Rattle.grammar.proofs.Tables.{walk}
 use Rattle.syntax.specs.declared.tree.Mark.{Mark}
 use Rattle.syntax.specs.declared.tree.Mark.TheVariants.{Out, In}
 use Rattle.syntax.specs.declared.tree.Role.TheVariants.{Exporting, Importing}
@@ -13,12 +15,10 @@ use Rattle.syntax.specs.declared.tree.Payload.TheVariants.{Nothing, Block, End}
 use Rattle.syntax.specs.declared.tree.Message.{Message}
 use Rattle.syntax.specs.declared.tree.Move.{Move}
 use Rattle.syntax.specs.Trees.{StateTree, ContractTree, parts_of}
-use Rattle.syntax.specs.Grammar.{each, message_words, move_words, state_words, contract_words, file_words, Stated, Spells, Viable}
+use Rattle.syntax.specs.Grammar.{message_words, move_words, state_words, contract_words, file_words, Stated, Spells}
 use Rattle.syntax.specs.Laws.{head_words}
-use Rattle.syntax.specs.Table.{among}
 use Rattle.syntax.specs.Machine.{At, Progress, add_move, ask}
 use Rattle.syntax.specs.Machine as q
-use Rattle.syntax.proofs.Tables.{onward, walk, along}
 use Rattle.syntax.proofs.Trails.{Opened, progress, state_of, with_message, contract_of, begin, add_state_lem, add_move_lem, end-contract, stated-push}
 
 abbrev pub over : At → List Sign → Option At
@@ -125,21 +125,3 @@ spells_whole ws cs h = ap (over origin) h.words ∙ whole cs h.stated h.some
 pub over_file : (cs : List ContractTree) → Stated cs → (ys : List Sign) → over origin (file_words cs ++ s.Key k.Contract ∷ ys) ≡ over (q.heading (parts_of cs)) ys
 over_file [] st ys = refl
 over_file (c ∷ cs) st ys = over_contracts [] (c ∷ cs) tt st (s.Key k.Contract ∷ ys)
-
--- a word that may not stand next cannot be continued from
-pub stuck : (ws : List Sign) (a : At) (x : Sign) → over origin ws ≡ Some a → among (ask a) x ≡ None → Viable (ws ++ x ∷ []) → ⊥
-stuck ws a x e t v =
-    let w : over origin ((ws ++ x ∷ []) ++ v.0) ≡ Some (q.more (parts_of v.1)) = spells_whole ((ws ++ x ∷ []) ++ v.0) v.1 v.2 in
-    let b : over origin (ws ++ x ∷ v.0) ≡ onward (among (ask a) x) (λ r. over r v.0) = along ask ws (x ∷ v.0) origin a e in
-    let c : (ws ++ x ∷ []) ++ v.0 ≡ ws ++ x ∷ v.0 = append_assoc ws (x ∷ []) v.0 in
-    let n : onward (among (ask a) x) (λ r. over r v.0) ≡ None = ap (λ o. onward o (λ r. over r v.0)) t in
-    let f : None ≡ Some (q.more (parts_of v.1)) = sym n ∙ sym b ∙ ap (over origin) (sym c) ∙ w in
-    let z : ◌≡◌ {A = ℕ} 0 1 = cc in omega arith
-
--- a text that ends where no file ends is none
-pub unfinished : (ws : List Sign) (a : At) → over origin ws ≡ Some a → among (ask a) s.End ≡ None → (cs : List ContractTree) → Spells ws cs → ⊥
-unfinished ws a e t cs h =
-    let w = spells_whole ws cs h in
-    let p : a ≡ q.more (parts_of cs) = cc in
-    let b = ap (λ r. among (ask r) s.End) p in
-    let z : ◌≡◌ {A = ℕ} 0 1 = cc in omega arith

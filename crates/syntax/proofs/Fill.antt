@@ -2,23 +2,27 @@
 use Rattle.std.proofs.Common.{◌≡◌, List, [], ◌∷◌, ◌++◌, sym, ap, ◌∙◌, append_assoc, append-nil}
 use Rattle.words.specs.declared.name.Ident.{Ident}
 use Rattle.words.specs.Signs.{Sign}
+use Rattle.grammar.specs.Families.{no_ident}
+use Rattle.grammar.specs.Laws.{Viable}
+use Rattle.grammar.proofs.Grammars.{Onto}
+use Rattle.grammar.proofs.Spelled.{pushed}
 use Rattle.syntax.specs.declared.tree.Mark.{Mark}
 use Rattle.syntax.specs.declared.tree.Mark.TheVariants.{Out}
 use Rattle.syntax.specs.declared.tree.Role.{Role}
 use Rattle.syntax.specs.declared.tree.Payload.TheVariants.{Block, End}
 use Rattle.syntax.specs.declared.tree.Message.{Message}
 use Rattle.syntax.specs.declared.tree.Move.{Move}
-use Rattle.syntax.specs.Trees.{StateTree, ContractTree, no_ident}
-use Rattle.syntax.specs.Grammar.{file_words, Stated, Viable}
+use Rattle.syntax.specs.Trees.{StateTree, ContractTree}
+use Rattle.syntax.specs.Grammar.{file_words, Stated, Spells}
 use Rattle.syntax.specs.Machine.{At}
-use Rattle.syntax.proofs.Trails.{Opened, Trail, start, heading, opening, messages, message, called, carrying, stating, closing, state, entering, moves, move, marked, aiming, aimed, states, more, spelled, state_of, with_move, with_message, contract_of, stated-push}
-use Rattle.syntax.proofs.Steps.{Onto, edges, pushed}
+use Rattle.syntax.proofs.Trails.{Opened, Trail, start, heading, opening, messages, message, called, carrying, stating, closing, state, entering, moves, move, marked, aiming, aimed, states, more, spelled, at, state_of, with_move, with_message, contract_of, stated-push}
+use Rattle.syntax.proofs.Steps.{edges}
 
 abbrev Fills : Trail → Type 0
-Fills N = Viable (spelled N)
+Fills N = Viable Spells (spelled N)
 
 -- what can be continued after one word more can be continued
-via : (N : Trail) (x : Sign) (a : At) (o : Onto N x a) → Viable (spelled o.to) → Fills N
+via : (N : Trail) (x : Sign) (a : At) (o : Onto at spelled N x a) → Fills o.to → Fills N
 via N x a o v = (x ∷ v.0, v.1, record { words = e ∙ v.2.words; some = v.2.some; stated = v.2.stated })
   where
     e : spelled N ++ x ∷ v.0 ≡ spelled o.to ++ v.0
@@ -67,7 +71,7 @@ fill_opening cs st n = via (opening cs st n) _ _ (edges (opening cs st n)).0.0 (
 fill_heading : (cs : List ContractTree) (st : Stated cs) → Fills (heading cs st)
 fill_heading cs st = via (heading cs st) _ _ ((edges (heading cs st)).0 no_ident).0 (fill_opening cs st no_ident)
 
-pub fill : (N : Trail) → Viable (spelled N)
+pub fill : (N : Trail) → Viable Spells (spelled N)
 fill start = via start _ _ (edges start).0.0 (fill_heading [] tt)
 fill (heading cs st) = fill_heading cs st
 fill (opening cs st n) = fill_opening cs st n

@@ -1,14 +1,10 @@
-pub mod Names
-pub mod Tables
 pub mod Trails
 pub mod Steps
 pub mod Back
 pub mod Fill
 pub mod Spots
 pub mod Law
-pub mod Exact
 pub mod Ranges
 pub mod Distinct
-pub mod Readers
 pub mod Parsers
 pub mod Reading

@@ -1,55 +1,37 @@
 -- A file with no word at fault keeps the limits, and each of its moves is a move of a state that it declares.
-use Rattle.std.proofs.Common.{◌≡◌, ℕ, zero, suc, ◌+◌, ◌<◌, ◌≤◌, List, [], ◌∷◌, ◌++◌, map, length, get_or, take, drop, sym, refl, ap, ◌∙◌, subst, append_assoc, le_of_suc-le-suc, arith, length-append, length-take}
+use Rattle.std.proofs.Common.{◌≡◌, ℕ, zero, suc, ◌+◌, ◌<◌, ◌≤◌, List, [], ◌∷◌, ◌++◌, map, length, get_or, sym, refl, ap, ◌∙◌, subst, append_assoc, le_of_suc-le-suc, arith, length-append}
 use lib.ListN.{length-map}
-use lib.Seq.{split_at, get_or_at}
+use lib.Seq.{get_or_at}
 use Rattle.std.proofs.lemmas.List.{map-append, length_push}
 use Rattle.words.specs.declared.name.Ident.{Ident}
 use Rattle.words.specs.declared.word.Keyword.TheVariants as k
 use Rattle.words.specs.declared.word.Mark.TheVariants as m
 use Rattle.words.specs.Signs.{Sign}
 use Rattle.words.specs.Signs as s
+use Rattle.grammar.specs.Laws.{room, once, Passed}
+use Rattle.grammar.specs.Spelling.{each}
+use Rattle.grammar.proofs.Admissions.{Admitted}
+use Rattle.grammar.proofs.Exact.{clean_at}
+use Rattle.grammar.proofs.Spelled.{each_append, each_mapped, few, second}
 use Rattle.syntax.specs.declared.tree.Message.{Message}
 use Rattle.syntax.specs.declared.tree.Move.{Move}
 use Rattle.syntax.specs.declared.tree.MoveEntry.{MoveEntry}
 use Rattle.syntax.specs.Trees.{StateTree, ContractTree, HeadTree, parts_of, head_tree, numbered, entries_of, move_entries, no_head, no_move, Ranged}
-use Rattle.syntax.specs.Grammar.{each, way_word, payload_words, message_words, move_words, state_words, contract_words, file_words, Stated, Spells}
-use Rattle.syntax.specs.Laws.{Family, contracts, messages, states, head_words, Named, Passed, Clean}
-use Rattle.syntax.proofs.Exact.{clean_at}
-
-each_append : {X : Type 0} (f : X → List Sign) (xs ys : List X) → each f (xs ++ ys) ≡ each f xs ++ each f ys
-each_append f [] ys = refl
-each_append f (x ∷ xs) ys = ap (λ l. f x ++ l) (each_append f xs ys) ∙ sym (append_assoc (f x) (each f xs) (each f ys))
-
--- the second word of a part in the middle
-second : (us part post : List Sign) (w n : Sign) → (us ++ (w ∷ n ∷ part)) ++ post ≡ (us ++ w ∷ []) ++ n ∷ (part ++ post)
-second us part post w n = append_assoc us (w ∷ n ∷ part) post ∙ sym (append_assoc us (w ∷ []) (n ∷ (part ++ post)))
-
--- a list has at most n elements if fewer than n stand before each of them
-at_most : {X : Type 0} (n : ℕ) (xs : List X) → ((pre : List X) (x : X) (post : List X) → xs ≡ pre ++ x ∷ post → length pre < n) → length xs ≤ n
-at_most n [] h = omega arith
-at_most n (x ∷ xs) h =
-    let j : length xs < length (x ∷ xs) = omega arith in
-    let a = h (take (length xs) (x ∷ xs)) (get_or (x ∷ xs) (length xs) x) (drop (suc (length xs)) (x ∷ xs)) (split_at (x ∷ xs) (length xs) x j) in
-    let b = length-take (length xs) (x ∷ xs) in
-    omega arith
+use Rattle.syntax.specs.Grammar.{way_word, payload_words, message_words, move_words, state_words, contract_words, file_words, Stated, Spells}
+use Rattle.syntax.specs.Laws.{Family, contracts, messages, states, head_words, Held, Clean}
 
 stated-before : (pre post : List ContractTree) → Stated (pre ++ post) → Stated pre
 stated-before [] post h = tt
 stated-before (c ∷ pre) post h = (h.0, stated-before pre post h.1)
 
--- a name joins its family: it has room, and the name does not stand in it
-pub record Admitted (n : Ident) (ns : List Ident) (limit : ℕ) : Type 0 where
-  pub room : length ns < limit
-  pub fresh : Named n ns → ⊥
-
 admitted : (ws : List Sign) (n : Ident) (rest all : List Sign) → all ≡ ws ++ s.Name n ∷ rest → Clean [] all → (ns : List Ident) (limit : ℕ) → Family ws ns limit → Admitted n ns limit
 admitted ws n rest all e clean ns limit f = record {
-  room = below (λ b. passed.within (n, ns, limit, refl, f, b));
-  fresh = λ h. passed.fresh (n, ns, limit, refl, f, h);
+  room = below (λ b. passed.kept room (n, ns, limit, refl, f, b));
+  fresh = λ h. passed.kept once (n, ns, limit, refl, f, h);
 }
   where
-    passed : Passed ws (s.Name n)
-    passed = clean_at [] ws (s.Name n) rest (subst (λ l. Clean [] l) e clean)
+    passed : Passed Spells Held ws (s.Name n)
+    passed = clean_at Spells Held [] ws (s.Name n) rest (subst (λ l. Clean [] l) e clean)
 
     below : (limit ≤ length ns → ⊥) → length ns < limit
     below h = omega arith
@@ -81,16 +63,6 @@ module _ (pre : List ContractTree) (c : ContractTree) (post : List ContractTree)
       ∙ sym (append_assoc (head_words c.ident c.messages) (each state_words us ++ s.Key k.State ∷ []) _) in
       admitted (file_words pre ++ (head_words c.ident c.messages ++ (each state_words us ++ s.Key k.State ∷ []))) x.ident _ _ (in_contract_lem _ _ w) clean
       (map (λ y. y.ident) us) 16 (states pre c.ident c.messages us (stated-before pre (c ∷ post) st) refl refl refl)
-
--- a family of which each name was admitted has at most as many as the limit
-few : {X : Type 0} (f : X → Ident) (limit : ℕ) (xs : List X) → ((us : List X) (x : X) (vs : List X) → xs ≡ us ++ x ∷ vs → Admitted (f x) (map f us) limit) → length xs ≤ limit
-few f limit xs h = at_most limit xs (λ us x vs e. let l = length-map us f in let r = (h us x vs e).room in omega arith)
-
--- what holds of each contract that a list of them has holds of what each of them declares
-pub each_head : (P : HeadTree → Type 0) → P no_head → (pre cs : List ContractTree) → ((us : List ContractTree) (c : ContractTree) (vs : List ContractTree) → pre ++ cs ≡ us ++ c ∷ vs → P (head_tree c)) → (i : ℕ) → P (get_or (map head_tree cs) i no_head)
-each_head P past pre [] h i = past
-each_head P past pre (c ∷ cs) h zero = h pre c cs refl
-each_head P past pre (c ∷ cs) h (suc i) = each_head P past (pre ++ c ∷ []) cs (λ us x vs e. h us x vs (sym (append_assoc pre (c ∷ []) cs) ∙ e)) i
 
 Small : HeadTree → Type 0
 Small h = (length h.messages ≤ 16) × (length h.states ≤ 16)
@@ -168,7 +140,7 @@ module _ (cs : List ContractTree) (st : Stated cs) (clean : Clean [] (file_words
 
   small : (i : ℕ) → Small (get_or (map head_tree cs) i no_head)
   unfolding Small
-  small = each_head Small (omega arith, omega arith) [] cs small_at
+  small = each_mapped head_tree Small no_head (omega arith, omega arith) [] cs small_at
 
   few-contracts : length (map head_tree cs) ≤ 8
   few-contracts = let l = length-map cs head_tree in let b = few (λ (x : ContractTree). x.ident) 8 cs contract-at in omega arith

@@ -1,68 +1,33 @@
 -- Each word that may stand next: the trees that it leads to, the words so far, and what a check says of it.
-use Rattle.std.proofs.Common.{◌≡◌, ℕ, Bool, true, false, cond, leb, List, [], ◌∷◌, ◌++◌, map, length, sym, refl, ap, append_assoc, append-nil, arith, leb-true}
+use Rattle.std.proofs.Common.{◌≡◌, ℕ, List, [], ◌∷◌, ◌++◌, map, refl, sym, ap, append_assoc, append-nil}
 use Rattle.words.specs.declared.name.Ident.{Ident}
 use Rattle.words.specs.Signs.{Sign}
 use Rattle.words.specs.Signs as s
+use Rattle.grammar.specs.Table.{admission}
+use Rattle.grammar.proofs.Admissions.{told as admitted}
+use Rattle.grammar.proofs.Grammars.{Says, Steps}
+use Rattle.grammar.proofs.Spelled.{each-push, pushed}
+use Rattle.grammar.proofs.Tables.{Edges}
 use Rattle.syntax.specs.declared.tree.Mark.TheVariants.{Out, In}
 use Rattle.syntax.specs.declared.tree.Role.TheVariants.{Exporting, Importing}
 use Rattle.syntax.specs.declared.tree.Payload.TheVariants.{Nothing, Block, End}
-use Rattle.syntax.specs.Trees.{ContractTree, Parts, head_tree, parts_of}
+use Rattle.syntax.specs.Trees.{ContractTree, head_tree, parts_of}
 use Rattle.syntax.specs.Grammar.{Spells}
-use Rattle.syntax.specs.Laws.{Family, contracts, Beyond, Second}
+use Rattle.syntax.specs.Laws.{Family, contracts, Held}
 use Rattle.syntax.specs.Laws as family
-use Rattle.syntax.specs.Table.{Check, fine, too_many, repeated, known, admission, Turn, go, new, accept, among}
-use Rattle.syntax.specs.Machine.{At, ask}
+use Rattle.syntax.specs.Machine.{ask}
 use Rattle.syntax.specs.Machine as q
-use Rattle.syntax.proofs.Names.{named}
-use Rattle.syntax.proofs.Tables.{Edges, Of, leads}
-use Rattle.syntax.proofs.Trails.{Trail, start, heading, opening, messages, message, called, carrying, stating, closing, state, entering, moves, move, marked, aiming, aimed, states, more, spelled, at, state_of, with_move, with_message, contract_of, each-push, begin, add_state_lem, add_move_lem, end-contract, stated-push}
+use Rattle.syntax.proofs.Trails.{Trail, start, heading, opening, messages, message, called, carrying, stating, closing, state, entering, moves, move, marked, aiming, aimed, states, more, spelled, at, state_of, with_move, with_message, contract_of, begin, add_state_lem, add_move_lem, end-contract, stated-push}
 
--- what a check says of a word after ws
-abbrev pub Says : Check → Sign → List Sign → Type 0
-Says fine x ws = Unit {0}
-Says (too_many n) x ws = (x ≡ s.Name n) × Beyond ws x
-Says (repeated n) x ws = (x ≡ s.Name n) × Second ws x
-
-judge : (ws : List Sign) (n : Ident) (full seen : Bool) → (full ≡ true → Beyond ws (s.Name n)) → (seen ≡ true → Second ws (s.Name n))
-    → Says (cond full (too_many n) (cond seen (repeated n) fine)) (s.Name n) ws
-judge ws n true seen f g = (refl, f refl)
-judge ws n false true f g = (refl, g refl)
-judge ws n false false f g = tt
-
-pub told : (ws : List Sign) (ns : List Ident) (limit : ℕ) → Family ws ns limit → (n : Ident) → Says (admission limit ns n) (s.Name n) ws
-told ws ns limit h n =
-    judge ws n (leb limit (length ns)) (known n ns)
-    (λ e. (n, ns, limit, refl, h, leb-true limit (length ns) e))
-    (λ e. (n, ns, limit, refl, h, named n ns e))
-
--- a step by the word x from N to q
-pub record Onto (N : Trail) (x : Sign) (q : At) : Type 0 where
-  pub to : Trail
-  pub stands : at to ≡ q
-  pub adds : spelled to ≡ spelled N ++ x ∷ []
-
--- the end is no word
-abbrev pub Wordy : Sign → Type 0
-Wordy (s.Key x) = Unit {0}
-Wordy (s.Mark x) = Unit {0}
-Wordy (s.Name n) = Unit {0}
-Wordy (s.Number n) = Unit {0}
-Wordy s.End = ⊥
-
-abbrev pub Steps : Trail → Sign → Turn At Parts → Type 0
-Steps N x (go q) = Onto N x q × Wordy x
-Steps N x (new q c) = Onto N x q × Wordy x × Says c x (spelled N)
-Steps N x (accept p) = (x ≡ s.End) × (cs : List ContractTree) × Spells (spelled N) cs × (p ≡ parts_of cs)
-
-pub pushed : {X : Type 0} (xs : List X) (x : X) → xs ++ x ∷ [] ≡ [] → ⊥
-pushed [] x e = let z : ◌≡◌ {A = ℕ} 0 1 = cc in omega arith
-pushed (y ∷ xs) x e = let z : ◌≡◌ {A = ℕ} 0 1 = cc in omega arith
+-- the check of the next name of a family
+pub told : (ws : List Sign) (ns : List Ident) (limit : ℕ) → Family ws ns limit → (n : Ident) → Says Held (admission limit ns n) (s.Name n) ws
+told ws ns limit f n = admitted Held ws n ns limit (λ b. (n, ns, limit, refl, f, b)) (λ h. (n, ns, limit, refl, f, h))
 
 pub heads-named : (cs : List ContractTree) → map (λ h. h.ident) (map head_tree cs) ≡ map (λ c. c.ident) cs
 heads-named [] = refl
 heads-named (c ∷ cs) = ap (λ l. c.ident ∷ l) (heads-named cs)
 
-abbrev pub edges : (N : Trail) → Edges (ask (at N)) (Steps N)
+abbrev pub edges : (N : Trail) → Edges (ask (at N)) (Steps Spells Held parts_of at spelled N)
 edges start = ((record { to = heading [] tt; stands = refl; adds = refl }, tt), tt)
 edges (heading cs st) =
     ((λ n. (record { to = opening cs st n; stands = refl; adds = simp append_assoc }, tt, told (spelled (heading cs st)) _ 8 (contracts cs st refl (heads-named cs) refl) n)), tt)
@@ -131,6 +96,3 @@ edges (states h ss e) = (
   ),
 )
 edges (more cs st e) = ((record { to = heading cs st; stands = refl; adds = refl }, tt), ((refl, cs, record { words = refl; some = e; stated = st }, refl), tt))
-
-pub steps : (N : Trail) (x : Sign) → Of (among (ask (at N)) x) (Steps N x)
-steps N x = leads (Steps N) (ask (at N)) (edges N) x

@@ -7,13 +7,14 @@ use Rattle.words.specs.declared.word.Keyword.TheVariants as k
 use Rattle.words.specs.declared.word.Mark.TheVariants as m
 use Rattle.words.specs.Signs.{Sign}
 use Rattle.words.specs.Signs as s
+use Rattle.grammar.specs.Spelling.{each}
 use Rattle.syntax.specs.declared.tree.Mark.{Mark}
 use Rattle.syntax.specs.declared.tree.Role.{Role}
 use Rattle.syntax.specs.declared.tree.Message.{Message}
 use Rattle.syntax.specs.declared.tree.Move.{Move}
 use Rattle.syntax.specs.declared.tree.MoveEntry.{MoveEntry}
 use Rattle.syntax.specs.Trees.{StateTree, ContractTree, HeadTree, Parts, numbered, entries_of, move_entries, head_tree, parts_of}
-use Rattle.syntax.specs.Grammar.{each, way_word, role_word, mark_word, payload_words, move_words, state_words, file_words, Stated}
+use Rattle.syntax.specs.Grammar.{way_word, role_word, mark_word, payload_words, move_words, state_words, file_words, Stated}
 use Rattle.syntax.specs.Laws.{head_words}
 use Rattle.syntax.specs.Machine.{At, Progress, begun, add_message, add_state, add_move, ended}
 use Rattle.syntax.specs.Machine as q
@@ -114,10 +115,6 @@ at (aiming h ss x n way) = q.aiming (progress h (ss ++ x ∷ [])) n way
 at (aimed h ss x v) = q.aimed (progress h (ss ++ x ∷ [])) v
 at (states h ss e) = q.states (progress h ss)
 at (more cs st e) = q.more (parts_of cs)
-
-pub each-push : {X : Type 0} (f : X → List Sign) (xs : List X) (x : X) → each f (xs ++ x ∷ []) ≡ each f xs ++ f x
-each-push f [] x = append-nil (f x)
-each-push f (y ∷ xs) x = ap (λ l. f y ++ l) (each-push f xs x) ∙ sym (append_assoc (f y) (each f xs) (f x))
 
 pub numbered-push : {X Y : Type 0} (f : ℕ → X → List Y) (i : ℕ) (xs : List X) (x : X) → numbered f i (xs ++ x ∷ []) ≡ numbered f i xs ++ f (i + length xs) x
 numbered-push f i [] x = let e : i + 0 ≡ i = omega arith in rw e (append-nil (f i x))

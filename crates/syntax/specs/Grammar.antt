@@ -5,12 +5,12 @@
 --   state    = "state" name "{" move* "}"
 --   move     = name ("!"|"?") "->" name ";"
 --   Spells ws cs      the words ws are the file of the contracts cs
---   Viable ws         the words ws can be continued to a file
 use Rattle.std.specs.Prelude.{◌≡◌, List, [], ◌∷◌, ◌++◌, ◌≢◌}
 use Rattle.words.specs.declared.word.Keyword.TheVariants as k
 use Rattle.words.specs.declared.word.Mark.TheVariants as m
 use Rattle.words.specs.Signs.{Sign}
 use Rattle.words.specs.Signs as s
+use Rattle.grammar.specs.Spelling.{each}
 use Rattle.syntax.specs.declared.tree.Mark.{Mark}
 use Rattle.syntax.specs.declared.tree.Mark.TheVariants.{Out, In}
 use Rattle.syntax.specs.declared.tree.Role.{Role}
@@ -20,10 +20,6 @@ use Rattle.syntax.specs.declared.tree.Payload.TheVariants.{Nothing, Block, End}
 use Rattle.syntax.specs.declared.tree.Message.{Message}
 use Rattle.syntax.specs.declared.tree.Move.{Move}
 use Rattle.syntax.specs.Trees.{StateTree, ContractTree}
-
-abbrev pub each : {X : Type 0} → (X → List Sign) → List X → List Sign
-each f [] = []
-each f (x ∷ xs) = f x ++ each f xs
 
 -- "!"|"?"
 abbrev pub mark_word : Mark → Sign
@@ -72,6 +68,3 @@ pub record Spells (ws : List Sign) (cs : List ContractTree) : Type 0 where
   pub words : ws ≡ file_words cs
   pub some : cs ≡ [] → ⊥
   pub stated : Stated cs
-
-abbrev pub Viable : List Sign → Type 0
-Viable ws = (more : List Sign) × (cs : List ContractTree) × Spells (ws ++ more) cs

@@ -1,10 +1,6 @@
-pub mod Rows
 pub mod Trees
 pub mod Grammar
-pub mod Faults
 pub mod Laws
-pub mod Table
-pub mod Sizes
 pub mod Picks
 pub mod Machine
 pub mod Parsing

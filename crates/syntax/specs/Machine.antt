@@ -8,7 +8,7 @@ use Rattle.std.specs.Prelude.{◌-◌, List, [], ◌∷◌, ◌++◌, map, lengt
 use Rattle.words.specs.declared.name.Ident.{Ident}
 use Rattle.words.specs.declared.word.Keyword.TheVariants as k
 use Rattle.words.specs.declared.word.Mark.TheVariants as m
-use Rattle.syntax.specs.declared.fault.GrammarFault.{GrammarFault}
+use Rattle.grammar.specs.declared.fault.GrammarFault.{GrammarFault}
 use Rattle.syntax.specs.declared.tree.Mark.{Mark}
 use Rattle.syntax.specs.declared.tree.Mark.TheVariants.{Out, In}
 use Rattle.syntax.specs.declared.tree.Role.{Role}
@@ -17,10 +17,10 @@ use Rattle.syntax.specs.declared.tree.Payload.TheVariants.{Nothing, Block, End}
 use Rattle.syntax.specs.declared.tree.Message.{Message}
 use Rattle.syntax.specs.declared.tree.Move.{Move}
 use Rattle.syntax.specs.declared.tree.MoveEntry.{MoveEntry}
-use Rattle.syntax.specs.declared.feed.Feed.{Feed}
-use Rattle.syntax.specs.Picks.{left}
+use Rattle.grammar.specs.declared.feed.Feed.{Feed}
+use Rattle.grammar.specs.Feeds.{left, source_in}
 use Rattle.syntax.specs.Trees.{HeadTree, Parts}
-use Rattle.syntax.specs.Table.{go, new, accept, Alt, key, mark, name, end, admission, run}
+use Rattle.grammar.specs.Table.{go, new, accept, Alt, key, mark, name, end, admission, run}
 
 pub record Progress : Type 0 where
   pub heads : List HeadTree
@@ -98,4 +98,4 @@ ask (states p) = key k.State (go (state p)) ∷ mark m.CloseBrace (go (more (end
 ask (more p) = key k.Contract (go (heading p)) ∷ end (accept p) ∷ []
 
 abbrev pub reading : At → Feed → Result Parts GrammarFault
-reading q from = run ask from.source q (left from)
+reading q from = run ask (source_in from) q (left from)

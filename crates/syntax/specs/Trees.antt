@@ -6,9 +6,8 @@
 --   parts_of cs                 the parts of the contracts cs
 --   parts t                    the parts that a tree of the code holds
 --   Ranged p                   numbers are in range: at most 8 contracts, 16 messages and states; moves of declared states
---   Once ns                    no name stands twice among ns
 --   Distinct p                 no name stands twice in its family: the contracts, and the messages and the states of each contract
-use Rattle.std.specs.Prelude.{◌≡◌, ℕ, ◌+◌, ◌<◌, ◌≤◌, List, [], ◌∷◌, ◌++◌, map, length, take, slice_index_or}
+use Rattle.std.specs.Prelude.{ℕ, ◌+◌, ◌<◌, ◌≤◌, List, [], ◌∷◌, ◌++◌, map, length, slice_index_or}
 use Rattle.words.specs.declared.name.Ident.{Ident}
 use Rattle.syntax.specs.declared.tree.Mark.TheVariants.{Out}
 use Rattle.syntax.specs.declared.tree.Message.{Message}
@@ -16,7 +15,8 @@ use Rattle.syntax.specs.declared.tree.Move.{Move}
 use Rattle.syntax.specs.declared.tree.MoveEntry.{MoveEntry}
 use Rattle.syntax.specs.declared.tree.Head.{Head}
 use Rattle.syntax.specs.declared.tree.Tree.{Tree}
-use Rattle.syntax.specs.Rows.{row_items}
+use Rattle.grammar.specs.Families.{no_ident, Once}
+use Rattle.grammar.specs.Rows.{row_items}
 
 pub record StateTree : Type 0 where
   pub ident : Ident
@@ -54,15 +54,12 @@ abbrev pub parts_of : List ContractTree → Parts
 parts_of cs = record { heads = map head_tree cs; moves = numbered move_entries 0 cs }
 
 abbrev pub declares : Head → HeadTree
-declares h = record { ident = h.ident; messages = take h.message_count h.messages; states = take h.state_count h.states }
+declares h = record { ident = h.ident; messages = row_items h.messages; states = row_items h.states }
 
 abbrev pub parts : Tree → Parts
 parts t = record { heads = map declares (row_items t.heads); moves = row_items t.moves }
 
--- what stands past the last contract, state or move
-abbrev pub no_ident : Ident
-no_ident = record { place = 0; name = record { len = 0; bytes = [] } }
-
+-- what stands past the last contract or move
 abbrev pub no_head : HeadTree
 no_head = record { ident = no_ident; messages = []; states = [] }
 
@@ -76,9 +73,6 @@ pub record Ranged (p : Parts) : Type 0 where
   pub owners : (i : ℕ) → i < length p.moves
       → ((slice_index_or p.moves i no_move).contract < length p.heads)
       × ((slice_index_or p.moves i no_move).state < length (slice_index_or p.heads (slice_index_or p.moves i no_move).contract no_head).states)
-
-abbrev pub Once : List Ident → Type 0
-Once ns = (i j : ℕ) → i < length ns → j < length ns → (slice_index_or ns i no_ident).name ≡ (slice_index_or ns j no_ident).name → i ≡ j
 
 pub record Distinct (p : Parts) : Type 0 where
   pub contracts : Once (map (λ h. h.ident) p.heads)

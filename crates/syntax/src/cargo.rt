@@ -2,6 +2,7 @@
 use crate::tree::Role;
 
 // Nothing where the message ends, a block, or an end whose contract and state follow.
+// An enum of its own: an Option of an Option of a role would leave all three without a name.
 #[derive(Clone, Copy)]
 pub(crate) enum Cargo {
     Nothing,

@@ -3,36 +3,32 @@
 
 ghost use Rattle.std.specs.Prelude.{◌≡◌, ◌<◌, ◌≤◌, [], length, IfOk, Err};
 ghost use Rattle.words.specs.declared.fault.Source.TheVariants as sources;
-ghost use Rattle.words.specs.Reading.{rest, source_of, too_large};
+ghost use Rattle.words.specs.Reading.{too_large};
 ghost use Rattle.words.specs.Stream.{words_of, bytes_in};
-ghost use Rattle.syntax.specs.declared.fault.GrammarFault.TheVariants as faults;
+ghost use Rattle.grammar.specs.declared.fault.GrammarFault.TheVariants as faults;
 ghost use Rattle.syntax.specs.Trees.{parts_of, parts, Ranged};
 ghost use Rattle.syntax.specs.Laws.{Right, Exact, outcome};
-ghost use Rattle.syntax.specs.Table.{run};
+ghost use Rattle.grammar.specs.Feeds.{left, source_in};
+ghost use Rattle.grammar.specs.Table.{run};
 ghost use Rattle.syntax.specs.Machine.{ask, start};
 
 mod cargo;
-mod family;
-pub mod fault;
-mod feed;
 mod fetch;
 mod parser;
-pub mod row;
 pub mod tree;
 
-use fault::GrammarFault;
-use feed::Feed;
+use grammar::fault::GrammarFault;
+use grammar::feed::Feed;
 use parser::Parser;
 use tree::Tree;
 use words::fault::Source;
-use words::reader::Reader;
 
-// The file of which a reader is at the beginning.
-fn parsed(reader: Reader<'_>) -> Result<Tree, GrammarFault>
-    requires { (source_of reader ≡ sources.Contracts) × (bytes_in (rest reader) ≤ 4096) }
-    ensures { outcome result ≡ run ask sources.Contracts (start (parts_of [])) (rest reader.entry) }
+// The file whose words are left.
+fn parsed(feed: Feed<'_>) -> Result<Tree, GrammarFault>
+    requires { (source_in feed ≡ sources.Contracts) × (bytes_in (left feed) ≤ 4096) }
+    ensures { outcome result ≡ run ask sources.Contracts (start (parts_of [])) (left feed.entry) }
 {
-    let mut parser = Parser::new(Feed::new(Source::Contracts, reader));
+    let mut parser = Parser::new(feed);
     parser.contracts()?;
     Ok(parser.into_tree())
 }
@@ -46,6 +42,6 @@ pub fn read_contracts(text: &[u8]) -> Result<Tree, GrammarFault>
     ensures exact { length text.now ≤ 4096 → Exact (words_of text.now) (outcome result) }
     ensures ranged { IfOk result (λ tree. Ranged (parts tree)) }
 {
-    let reader = Reader::new(Source::Contracts, text)?;
-    parsed(reader)
+    let feed = Feed::open(Source::Contracts, text)?;
+    parsed(feed)
 }

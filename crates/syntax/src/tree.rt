@@ -1,8 +1,8 @@
 // A contract file as it is written: what each contract declares, and all moves in the order of the text.
 ghost use Rattle.std.specs.Prelude.{◌≡◌};
-ghost use Rattle.syntax.specs.Rows.{row_items};
+ghost use Rattle.grammar.specs.Rows.{row_items};
 
-use crate::row::Row;
+use grammar::row::Row;
 use words::name::Ident;
 
 /// A message is sent by the exporting end (`out`, marked `!`) or by the importing end (`in`, marked `?`).
@@ -59,10 +59,8 @@ pub struct MoveEntry {
 #[derive(Clone, Copy)]
 pub struct Head {
     pub ident: Ident,
-    pub message_count: usize,
-    pub messages: [Message; 16],
-    pub state_count: usize,
-    pub states: [Ident; 16],
+    pub messages: Row<Message, 16>,
+    pub states: Row<Ident, 16>,
 }
 
 /// The contracts of a file, and all their moves in the order of the text.

@@ -1,5 +1,5 @@
 use Rattle.std.proofs.Common.{◌≡◌, ℕ, ◌<◌, length, get_or}
-use Rattle.syntax.specs.Trees.{no_ident}
+use Rattle.grammar.specs.Families.{no_ident}
 use Rattle.contracts.specs.Numbers.{no_name}
 use Rattle.contracts.proofs.declared.all_states.Given as goal
 

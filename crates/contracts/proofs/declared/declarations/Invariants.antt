@@ -1,5 +1,5 @@
 use Rattle.std.proofs.Common.{◌≡◌, ℕ, ◌<◌, map, length}
-use Rattle.syntax.specs.Rows.{row_items}
+use Rattle.grammar.specs.Rows.{row_items}
 use Rattle.syntax.specs.Trees.{declares}
 use Rattle.contracts.specs.Names.{head_at}
 use Rattle.contracts.specs.Numbers.{declaration_at, DeclaredAs}

@@ -1,5 +1,5 @@
 use Rattle.std.proofs.Common.{◌<◌, map, length, get_or, arith}
-use Rattle.syntax.specs.Rows.{row_items}
+use Rattle.grammar.specs.Rows.{row_items}
 use Rattle.syntax.specs.Trees.{declares, no_move}
 use Rattle.contracts.specs.Numbers.{unwritten, WrittenAs}
 use Rattle.contracts.proofs.Numbered.{pushed}

@@ -1,6 +1,6 @@
 use Rattle.std.proofs.Common.{sym, subst, MatchResult}
 use Rattle.std.proofs.lemmas.Result.{MatchResult-weaker}
-use Rattle.syntax.specs.Rows.{row_items}
+use Rattle.grammar.specs.Rows.{row_items}
 use Rattle.syntax.specs.Trees.{Parts, Ranged}
 use Rattle.contracts.specs.Names.{FirstUnresolved}
 use Rattle.contracts.specs.Numbers.{Numbers}

@@ -1,9 +1,9 @@
 use Rattle.std.proofs.Common.{rules}
-use lib.ListN.{length-map}
+use Rattle.std.proofs.lemmas.Simd.{map-map}
 use Rattle.syntax.proofs.parser.Parser.contract_name.Goals as goal
 
-pub returns-in_err-admit : goal.returns-in_err-admit
-returns-in_err-admit c = search (rules, length-map)
+pub returns-in_err-admit-clause-reads : goal.returns-in_err-admit-clause-reads
+returns-in_err-admit-clause-reads c = search (rules, map-map)
 
-pub returns : goal.returns
-returns c = search (rules, length-map)
+pub returns-clause-reads : goal.returns-clause-reads
+returns-clause-reads c = search (rules, map-map)
