@@ -7,7 +7,7 @@ use Rattle.words.specs.declared.name.Ident.{Ident}
 use Rattle.words.specs.Signs.{Sign}
 use Rattle.words.specs.Signs as s
 use Rattle.grammar.specs.declared.feed.Feed.{Feed}
-use Rattle.grammar.specs.Feeds.{fetched, Moved}
+use Rattle.grammar.specs.Feeds.{Fetches}
 use Rattle.grammar.specs.Table.{in_name}
 use Rattle.script_syntax.specs.declared.opcode.Opcode.{Opcode}
 use Rattle.script_syntax.specs.declared.opcode.Opcode.TheVariants as o
@@ -28,8 +28,8 @@ Small most a x b = Counts (λ n. natural_of (value_of n.bytes)) (pos 0) (pos mos
 abbrev Far : Feed → Distance → Feed → Type 0
 Far a x b = Counts distance_of (negsuc 126) (pos 127) a (Ok x) b
 
-abbrev Called : Feed → Ident → Type 0
-Called a n = Ok n ≡ fetched in_name a
+abbrev Called : Feed → Ident → Feed → Type 0
+Called a n b = Fetches 1 in_name a (Ok n) b
 
 abbrev Read : Opcode → Progress → Feed → Statement → Feed → Type 0
 Read op p a y b = reading (q.operands p op [] (kinds op)) a ≡ reading (q.closing p y) b
@@ -72,12 +72,12 @@ free_read op p a b x k h0 =
     let same : typed o.Free (s.Number g0.n ∷ []) ≡ t.Free x = cc in
     rw k (one o.Free p (t.Free x) g0.step same)
 
-pub open_read : (p : Progress) (a b c d : Feed) (x : Ident) (y : ℕ) (z : ℕ) → Called a x → Moved a b → Small 7 b y c → Small 7 c z d → Read o.Open p a (t.Open x y z) d
-open_read p a b c d x y z h0 m0 h1 h2 =
+pub open_read : (p : Progress) (a b c d : Feed) (x : Ident) (y : ℕ) (z : ℕ) → Called a x b → Small 7 b y c → Small 7 c z d → Read o.Open p a (t.Open x y z) d
+open_read p a b c d x y z h0 h1 h2 =
     let g1 = by_number h1 in
     let g2 = by_number h2 in
     let same : typed o.Open (s.Name x ∷ s.Number g1.n ∷ s.Number g2.n ∷ []) ≡ t.Open x y z = cc in
-    three o.Open p (t.Open x y z) (by_name h0 m0) g1.step g2.step same
+    three o.Open p (t.Open x y z) (by_name h0) g1.step g2.step same
 
 pub close_read : (op : Opcode) (p : Progress) (a b : Feed) (x : ℕ) → op ≡ o.Close → Small 7 a x b → Read op p a (t.Close x) b
 close_read op p a b x k h0 =
@@ -85,18 +85,18 @@ close_read op p a b x k h0 =
     let same : typed o.Close (s.Number g0.n ∷ []) ≡ t.Close x = cc in
     rw k (one o.Close p (t.Close x) g0.step same)
 
-pub send_read : (p : Progress) (a b c d : Feed) (x : ℕ) (y : Ident) (z : Ident) → Small 7 a x b → Called b y → Moved b c → Called c z → Moved c d → Read o.Send p a (t.Send x y z) d
-send_read p a b c d x y z h0 h1 m1 h2 m2 =
+pub send_read : (p : Progress) (a b c d : Feed) (x : ℕ) (y : Ident) (z : Ident) → Small 7 a x b → Called b y c → Called c z d → Read o.Send p a (t.Send x y z) d
+send_read p a b c d x y z h0 h1 h2 =
     let g0 = by_number h0 in
     let same : typed o.Send (s.Number g0.n ∷ s.Name y ∷ s.Name z ∷ []) ≡ t.Send x y z = cc in
-    three o.Send p (t.Send x y z) g0.step (by_name h1 m1) (by_name h2 m2) same
+    three o.Send p (t.Send x y z) g0.step (by_name h1) (by_name h2) same
 
-pub pass_read : (p : Progress) (a b c d e : Feed) (x : ℕ) (y : Ident) (z : Ident) (w : ℕ) → Small 7 a x b → Called b y → Moved b c → Called c z → Moved c d → Small 7 d w e → Read o.Pass p a (t.Pass x y z w) e
-pass_read p a b c d e x y z w h0 h1 m1 h2 m2 h3 =
+pub pass_read : (p : Progress) (a b c d e : Feed) (x : ℕ) (y : Ident) (z : Ident) (w : ℕ) → Small 7 a x b → Called b y c → Called c z d → Small 7 d w e → Read o.Pass p a (t.Pass x y z w) e
+pass_read p a b c d e x y z w h0 h1 h2 h3 =
     let g0 = by_number h0 in
     let g3 = by_number h3 in
     let same : typed o.Pass (s.Number g0.n ∷ s.Name y ∷ s.Name z ∷ s.Number g3.n ∷ []) ≡ t.Pass x y z w = cc in
-    four o.Pass p (t.Pass x y z w) g0.step (by_name h1 m1) (by_name h2 m2) g3.step same
+    four o.Pass p (t.Pass x y z w) g0.step (by_name h1) (by_name h2) g3.step same
 
 pub receive_read : (op : Opcode) (p : Progress) (a b c : Feed) (x : ℕ) (y : ℕ) → op ≡ o.Receive → Small 7 a x b → Small 7 b y c → Read op p a (t.Receive x y) c
 receive_read op p a b c x y k h0 h1 =
@@ -105,11 +105,11 @@ receive_read op p a b c x y k h0 h1 =
     let same : typed o.Receive (s.Number g0.n ∷ s.Number g1.n ∷ []) ≡ t.Receive x y = cc in
     rw k (two o.Receive p (t.Receive x y) g0.step g1.step same)
 
-pub case_read : (p : Progress) (a b c d : Feed) (x : Ident) (y : Ident) (z : Distance) → Called a x → Moved a b → Called b y → Moved b c → Far c z d → Read o.Case p a (t.Case x y z) d
-case_read p a b c d x y z h0 m0 h1 m1 h2 =
+pub case_read : (p : Progress) (a b c d : Feed) (x : Ident) (y : Ident) (z : Distance) → Called a x b → Called b y c → Far c z d → Read o.Case p a (t.Case x y z) d
+case_read p a b c d x y z h0 h1 h2 =
     let g2 = by_number h2 in
     let same : typed o.Case (s.Name x ∷ s.Name y ∷ s.Number g2.n ∷ []) ≡ t.Case x y z = cc in
-    three o.Case p (t.Case x y z) (by_name h0 m0) (by_name h1 m1) g2.step same
+    three o.Case p (t.Case x y z) (by_name h0) (by_name h1) g2.step same
 
 pub lost_read : (op : Opcode) (p : Progress) (a b : Feed) (x : Distance) → op ≡ o.Lost → Far a x b → Read op p a (t.Lost x) b
 lost_read op p a b x k h0 =

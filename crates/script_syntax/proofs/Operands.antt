@@ -8,7 +8,7 @@ use Rattle.words.specs.Stream.{Stream, stop, bad, word, head_of, tail_of}
 use Rattle.grammar.specs.declared.fault.GrammarFault.{GrammarFault}
 use Rattle.grammar.specs.declared.fault.GrammarFault.TheVariants as fault
 use Rattle.grammar.specs.declared.feed.Feed.{Feed}
-use Rattle.grammar.specs.Feeds.{left, source_in, fetched, Moved}
+use Rattle.grammar.specs.Feeds.{left, source_in, Fetches, Moved}
 use Rattle.grammar.specs.Table.{run, after, among, in_name, picked}
 use Rattle.script_syntax.specs.declared.opcode.Opcode.{Opcode}
 use Rattle.script_syntax.specs.Numbers.{value_of, is_in_range}
@@ -80,8 +80,8 @@ pub record Step (i : Kind) (x : Sign) (a b : Feed) : Type 0 where
   pub goes : (p : Progress) (op : Opcode) (xs : List Sign) (ks : List Kind) → reading (q.operands p op xs (i ∷ ks)) a ≡ reading (q.operands p op (xs ++ x ∷ []) ks) b
 
 -- a name that was read
-pub by_name : {a b : Feed} {n : Ident} → Ok n ≡ fetched in_name a → Moved a b → Step j.name (s.Name n) a b
-by_name {a} {b} {n} e m = record { goes = λ p op xs ks. named (source_in a) p op xs ks n (left a) e ∙ moved a b m _ }
+pub by_name : {a b : Feed} {n : Ident} → Fetches 1 in_name a (Ok n) b → Step j.name (s.Name n) a b
+by_name {a} {b} {n} f = record { goes = λ p op xs ks. named (source_in a) p op xs ks n (left a) f.head ∙ moved a b f.rest _ }
 
 -- a number that was read, of which x is kept
 pub record Counted {X : Type 0} (f : Numeral → X) (low high : ℤ) (x : X) (a b : Feed) : Type 0 where

@@ -1,10 +1,10 @@
 // The words that the grammar of script files asks for: each function fetches a word, and refuses one that is not allowed there.
 ghost use Rattle.std.specs.Prelude.{◌≡◌, ◌+◌, ◌≤◌, true, false, pos, negsuc, ◌≤ℤ◌, is_some, IfOk, OnOk};
 ghost use Rattle.words.specs.Stream.{bytes_in};
-ghost use Rattle.grammar.specs.Feeds.{left, fetched, Moved};
+ghost use Rattle.grammar.specs.Feeds.{left, Moved};
 ghost use Rattle.script_syntax.specs.Grammar.{distance_of};
 ghost use Rattle.script_syntax.specs.Numbers.{natural_of, value_of};
-ghost use Rattle.script_syntax.specs.Picks.{Counts, in_process, in_process_or_end, looked, statement_in};
+ghost use Rattle.script_syntax.specs.Picks.{Counts, looked, statement_in};
 
 use crate::number::value;
 use crate::opcode::Opcode;
@@ -13,39 +13,6 @@ use grammar::fault::GrammarFault;
 use grammar::feed::Feed;
 use words::fault::Span;
 use words::word::{Keyword, Mark, Word};
-
-// The first `process` of a file.
-pub(crate) fn process_word(feed: &mut Feed<'_>) -> Result<(), GrammarFault>
-    ensures head { result ≡ fetched in_process feed.old }
-    ensures rest { Moved feed.old feed.new }
-    ensures left { bytes_in (left feed.new) ≤ bytes_in (left feed.old) }
-{
-    let word = feed.next()?;
-    match word {
-        Word::Keyword {
-            keyword: Keyword::Process,
-            ..
-        } => Ok(()),
-        _ => Err(feed.unexpected(word)),
-    }
-}
-
-// Whether one more process follows; else the text ends.
-pub(crate) fn process_word_or_end(feed: &mut Feed<'_>) -> Result<bool, GrammarFault>
-    ensures head { result ≡ fetched in_process_or_end feed.old }
-    ensures rest { Moved feed.old feed.new }
-    ensures left { bytes_in (left feed.new) ≤ bytes_in (left feed.old) }
-{
-    let word = feed.next()?;
-    match word {
-        Word::Keyword {
-            keyword: Keyword::Process,
-            ..
-        } => Ok(true),
-        Word::End { .. } => Ok(false),
-        _ => Err(feed.unexpected(word)),
-    }
-}
 
 // A number from `low` to `high`, with its place.
 fn number_in(feed: &mut Feed<'_>, low: i16, high: i16) -> Result<Distance, GrammarFault>

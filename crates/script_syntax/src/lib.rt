@@ -12,7 +12,6 @@ ghost use Rattle.script_syntax.specs.Laws.{Exact, Right, outcome};
 ghost use Rattle.script_syntax.specs.Machine.{ask, start};
 ghost use Rattle.script_syntax.specs.Trees.{Distinct, Ranged, parts};
 
-mod family;
 mod fetch;
 mod number;
 mod opcode;

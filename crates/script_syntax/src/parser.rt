@@ -9,15 +9,15 @@ ghost use Rattle.script_syntax.specs.Machine as q;
 ghost use Rattle.script_syntax.specs.Opcodes.{kinds};
 ghost use Rattle.script_syntax.specs.Trees.{process_of, processes_of, ProcessParts};
 
-use crate::family::has_process;
-use crate::fetch::{process_word, process_word_or_end, statement_or_end};
+use crate::fetch::statement_or_end;
 use crate::opcode::Opcode;
 use crate::statement::statement;
 use crate::tree::{Process, Statement};
 use grammar::fault::GrammarFault;
 use grammar::feed::Feed;
 use grammar::row::Row;
-use words::word::Mark;
+use words::name::{Ident, Name};
+use words::word::{Keyword, Mark};
 
 // An instruction after its word, and its `;`.
 fn line(feed: &mut Feed<'_>, opcode: Opcode) -> Result<Statement, GrammarFault>
@@ -43,13 +43,13 @@ fn body(feed: &mut Feed<'_>) -> Result<Row<Statement, 64>, GrammarFault>
 }
 
 // A process after its `process`, which is to stand behind those before it.
-fn process(feed: &mut Feed<'_>, before: &[Process]) -> Result<Process, GrammarFault>
-    ensures goes { Goes (q.reading (q.heading (processes_of before.now)) feed.old) result (λ p. q.reading (q.more (processes_of before.now ++ process_of p ∷ [])) feed.new) }
+fn process(feed: &mut Feed<'_>, before: &Row<Process, 8>) -> Result<Process, GrammarFault>
+    ensures goes { Goes (q.reading (q.heading (processes_of (row_items before.now))) feed.old) result (λ p. q.reading (q.more (processes_of (row_items before.now) ++ process_of p ∷ [])) feed.new) }
     ensures spent { OnOk result (bytes_in (left feed.new) < bytes_in (left feed.old)) }
-    ensures room { OnOk result (length before.now < 8) }
+    ensures room { OnOk result (length (row_items before.now) < 8) }
 {
     let ident = feed.name()?;
-    feed.admit(ident, before.len() >= 8, has_process(before, ident))?;
+    feed.admit(ident, before)?;
     feed.mark(Mark::OpenBrace)?;
     let statements = body(feed)?;
     Ok(Process { ident, statements })
@@ -59,13 +59,20 @@ fn process(feed: &mut Feed<'_>, before: &[Process]) -> Result<Process, GrammarFa
 pub(crate) fn processes(feed: &mut Feed<'_>) -> Result<Row<Process, 8>, GrammarFault>
     ensures { Goes (q.reading (q.start []) feed.old) result (λ row. Ok (processes_of (row_items row))) }
 {
-    process_word(feed)?;
-    let first = process(feed, &[])?;
-    let mut all = Row::new(first);
-    let _ = all.push(first);
-    while process_word_or_end(feed)? {
-        let next = process(feed, all.as_slice())?;
+    feed.keyword(Keyword::Process)?;
+    let filler = Process {
+        ident: Ident {
+            place: 0,
+            name: Name::copied(b""),
+        },
+        statements: Row::new(Statement::End),
+    };
+    let mut all = Row::new(filler);
+    loop {
+        let next = process(feed, &all)?;
         let _ = all.push(next);
+        if !feed.keyword_or_end(Keyword::Process)? {
+            return Ok(all);
+        }
     }
-    Ok(all)
 }

@@ -2,6 +2,7 @@
 ghost use Rattle.std.specs.Prelude.{◌≡◌};
 ghost use Rattle.grammar.specs.Rows.{row_items};
 
+use grammar::family::Named;
 use grammar::row::Row;
 use words::name::Ident;
 
@@ -69,6 +70,15 @@ pub enum Statement {
 pub struct Process {
     pub ident: Ident,
     pub statements: Row<Statement, 64>,
+}
+
+// A process stands among the file's under its name.
+impl Named for Process {
+    ghost named = { λ x. x.ident };
+
+    fn ident(&self) -> Ident {
+        self.ident
+    }
 }
 
 /// The processes of a script file, numbered as they appear.

@@ -4,9 +4,8 @@ ghost use Rattle.scripts.specs.Jumps.{span_of_distance, JumpOutside as Outside, 
 
 use crate::position::Position;
 use crate::rule::Rule;
-use crate::span::distance_span;
 use script_syntax::tree::{Distance, Statement};
-use words::fault::Span;
+use words::fault::{Source, Span};
 
 // Where the distance of a jump stands that leads outside.
 fn outside(at: Position, distance: Distance) -> Option<Span>
@@ -14,7 +13,11 @@ fn outside(at: Position, distance: Distance) -> Option<Span>
 {
     match at.target(distance.value) {
         Some(_) => None,
-        None => Some(distance_span(distance)),
+        None => Some(Span {
+            source: Source::Scripts,
+            place: distance.place,
+            len: distance.len,
+        }),
     }
 }
 

@@ -14,4 +14,3 @@ mod resolve;
 mod rule;
 mod script;
 pub mod set;
-mod span;

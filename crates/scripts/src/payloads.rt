@@ -7,11 +7,10 @@ ghost use Rattle.scripts.specs.Payloads.{Carrying, WrongPayload as Wrong};
 use crate::position::Position;
 use crate::resolve::pair_of;
 use crate::rule::Rule;
-use crate::span::span_of;
 use contracts::declaration::Payload;
 use contracts::set::ContractSet;
 use script_syntax::tree::Statement;
-use words::fault::Span;
+use words::fault::{Source, Span};
 use words::name::Ident;
 
 /// What a message carries fits the statement that sends it.
@@ -44,7 +43,7 @@ impl Rule for Payloads<'_> {
             } => {
                 match self.payload_of(contract, message) {
                     Some(Payload::Nothing) | None => None,
-                    Some(_) => Some(span_of(message)),
+                    Some(_) => Some(message.span(Source::Scripts)),
                 }
             }
             Statement::Pass {
@@ -53,7 +52,7 @@ impl Rule for Payloads<'_> {
                 ..
             } => {
                 match self.payload_of(contract, message) {
-                    Some(Payload::Nothing) => Some(span_of(message)),
+                    Some(Payload::Nothing) => Some(message.span(Source::Scripts)),
                     _ => None,
                 }
             }

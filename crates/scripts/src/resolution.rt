@@ -42,10 +42,7 @@ pub(crate) fn scripts(
         (Earliest (λ n i. Undeclared (tables_in contracts.now)) (processes_of processes.now)) }
 {
     let filler = Script {
-        name: Name {
-            len: 0,
-            bytes: [0; 16],
-        },
+        name: Name::copied(b""),
         instructions: Row::new(Instruction::End),
     };
     let mut all = Row::new(filler);

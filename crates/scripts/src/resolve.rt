@@ -5,10 +5,9 @@ ghost use Rattle.script_syntax.specs.declared.tree.Statement.TheVariants.{Case, 
 ghost use Rattle.scripts.specs.Names.{ContractOf, MessageOf, NoContract, NoMessage, NoPair, PairOf, Resolves, Undeclared};
 
 use crate::instruction::Instruction;
-use crate::span::span_of;
 use contracts::set::ContractSet;
 use script_syntax::tree::{Distance, Statement};
-use words::fault::Span;
+use words::fault::{Source, Span};
 use words::name::Ident;
 
 // The contract of a name.
@@ -17,7 +16,7 @@ fn contract_of(contracts: &ContractSet, ident: Ident) -> Result<u8, Span>
 {
     match contracts.find_contract(ident.name) {
         Some(k) => Ok(k as u8),
-        None => Err(span_of(ident)),
+        None => Err(ident.span(Source::Scripts)),
     }
 }
 
@@ -27,7 +26,7 @@ fn message_of(contracts: &ContractSet, contract: u8, ident: Ident) -> Result<u8,
 {
     match contracts.find_message(contract as usize, ident.name) {
         Some(m) => Ok(m as u8),
-        None => Err(span_of(ident)),
+        None => Err(ident.span(Source::Scripts)),
     }
 }
 

@@ -14,6 +14,6 @@ impl ScriptSet {
     {
         self.scripts()
             .iter()
-            .position(|script| script.name.same(name))
+            .position(|script| script.name == name)
     }
 }

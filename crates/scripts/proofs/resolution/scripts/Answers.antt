@@ -4,7 +4,7 @@ use Rattle.std.proofs.lemmas.Result.{err_from_is_err_and}
 use Rattle.contracts.specs.View.{tables_in}
 use Rattle.grammar.specs.Rows.{row_items}
 use Rattle.script_syntax.specs.Trees.{no_process, processes_of}
-use Rattle.script_syntax.proofs.Families.{read_at}
+use Rattle.script_syntax.proofs.Processes.{read_at}
 use Rattle.scripts.specs.Names.{Undeclared}
 use Rattle.scripts.specs.Places.{FirstIn}
 use Rattle.scripts.specs.Scripts.{ScriptAs, script_of}

@@ -1,5 +1,5 @@
 use Rattle.std.proofs.Common.{sym, ap, subst, below_more}
-use Rattle.script_syntax.proofs.Families.{read_at}
+use Rattle.script_syntax.proofs.Processes.{read_at}
 use Rattle.scripts.specs.Places.{KeptIn}
 use Rattle.scripts.proofs.rule.earliest.Goals as goal
 
