@@ -10,7 +10,7 @@ fn digit(b: u8) -> u16
     u16::from(b.saturating_sub(b'0'))
 }
 
-// The value of one to three digits.
+// The value of one to three digits. Patterns and no fold: they bound the sum, as the callers' slices do not.
 fn magnitude(digits: &[u8]) -> u16
     ensures value { result ≡ magnitude_of digits.now }
     ensures small { result ≤ 22977 }

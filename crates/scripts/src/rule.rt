@@ -11,6 +11,7 @@ use grammar::row::Row;
 use script_syntax::tree::{Process, Statement};
 use words::fault::Span;
 
+// Beside the trait of contracts, which ranges over tables and finds numbers: one over both would have as many members as both.
 /// A rule on the statements of a file.
 pub(crate) trait Rule {
     // the statement, the i-th of n, breaks the rule at a part of the text
