@@ -43,6 +43,7 @@ fn body(feed: &mut Feed<'_>) -> Result<Row<Statement, 64>, GrammarFault>
 }
 
 // A process after its `process`, which is to stand behind those before it.
+#[tactic(auto, using(crate::proofs::Processes::idents_of))]
 fn process(feed: &mut Feed<'_>, before: &Row<Process, 8>) -> Result<Process, GrammarFault>
     ensures goes { Goes (q.reading (q.heading (processes_of (row_items before.now))) feed.old) result (λ p. q.reading (q.more (processes_of (row_items before.now) ++ process_of p ∷ [])) feed.new) }
     ensures spent { OnOk result (bytes_in (left feed.new) < bytes_in (left feed.old)) }

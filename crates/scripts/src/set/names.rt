@@ -12,8 +12,6 @@ impl ScriptSet {
         ensures answer { MatchOption result (Never (ProcessNamed (scripts_in self.now) name)) (ProcessNamed (scripts_in self.now) name) }
         ensures only { (p : ℕ) → ProcessNamed (scripts_in self.now) name p → result ≡ Some p }
     {
-        self.scripts()
-            .iter()
-            .position(|script| script.name == name)
+        self.scripts().iter().position(|script| script.name == name)
     }
 }
