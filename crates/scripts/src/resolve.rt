@@ -43,7 +43,7 @@ pub(crate) fn pair_of(
     Ok((k, m))
 }
 
-// Each statement that has names is a function of its own, since one `match` with all fields passes 40 lines.
+// Each statement that has names is a function of its own: one `match` over all fields would be twice as long, and no plainer.
 
 // `open` with numbers in place of names.
 fn open(
