@@ -9,3 +9,4 @@ pub mod Lines
 pub mod Statements
 pub mod Ranges
 pub mod Reading
+pub mod Processes

@@ -142,9 +142,9 @@ module _ (pre : List ProcessTree) (p : ProcessTree) (post : List ProcessTree) (f
 
     fits : (passed' left : List Kind) (done rest : List Sign) → kinds x.opcode ≡ passed' ++ left → x.operands ≡ done ++ rest → Operands passed' done → Operands left rest
         → (i : ℕ) (low high : ℤ) → get_or left i j.name ≡ j.number low high → is_in_range low high (value_of (numeral_in (get_or rest i s.End)).bytes) ≡ true
-    fits passed' [] done rest g f st sr i low high q = let z : ◌≡◌ {A = ℕ} 0 1 = cc in absurd (omega arith)
+    fits passed' [] done rest g f st sr i low high q = absurd (cc)
     fits passed' (i₀ ∷ ks) done [] g f st sr i low high q = absurd sr
-    fits passed' (j.name ∷ ks) done (y ∷ ys) g f st sr zero low high q = let z : ◌≡◌ {A = ℕ} 0 1 = cc in absurd (omega arith)
+    fits passed' (j.name ∷ ks) done (y ∷ ys) g f st sr zero low high q = absurd (cc)
     fits passed' (j.number a b ∷ ks) done (y ∷ ys) g f st sr zero low high q =
         let n = sr.0.0 in
         let u : a ≡ low = cc in

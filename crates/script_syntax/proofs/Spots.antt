@@ -28,9 +28,9 @@ ranged_level low high n out = at_bool (is_in_range low high (value_of n.bytes)) 
   where
     inside : (a b : Bool) → le_z low (value_of n.bytes) ≡ a → le_z (value_of n.bytes) high ≡ b → is_in_range low high (value_of n.bytes) ≡ true → ⊥
     inside true true e f h = out (record { le = rw e tt }, record { le = rw f tt })
-    inside true false e f h = let z : ◌≡◌ {A = ℕ} 0 1 = grind arith in omega arith
-    inside false true e f h = let z : ◌≡◌ {A = ℕ} 0 1 = grind arith in omega arith
-    inside false false e f h = let z : ◌≡◌ {A = ℕ} 0 1 = grind arith in omega arith
+    inside true false e f h = grind arith
+    inside false true e f h = grind arith
+    inside false false e f h = grind arith
 
     at_bool : (b : Bool) → is_in_range low high (value_of n.bytes) ≡ b → check_level (cond b fine (out_of_range n)) ≡ 5
     at_bool true e = absurd (inside (le_z low (value_of n.bytes)) (le_z (value_of n.bytes) high) refl refl e)

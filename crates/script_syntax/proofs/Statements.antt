@@ -1,7 +1,6 @@
 -- An instruction word that is read leads on to its operands.
-use Rattle.std.proofs.Common.{◌≡◌, ℕ, ◌<◌, Bool, true, false, cond, leb, [], length, is_some, IfOk, Some, None, Ok, Err, Option, Result, sym, refl, ap, ◌∙◌, subst, arith, leb-false}
+use Rattle.std.proofs.Common.{◌≡◌, ℕ, Bool, true, false, cond, leb, [], length, Some, Ok, Err, Option, Result, sym, refl, ap, ◌∙◌, subst}
 use Rattle.words.specs.declared.fault.Source.{Source}
-use Rattle.words.specs.declared.fault.WordFault.{WordFault}
 use Rattle.words.specs.declared.word.Keyword.TheVariants as k
 use Rattle.words.specs.declared.word.Mark.TheVariants as m
 use Rattle.words.specs.Signs.{Sign, Word}
@@ -16,10 +15,9 @@ use Rattle.grammar.specs.Table.{Goes, judged, fine, crowded, run}
 use Rattle.script_syntax.specs.declared.opcode.Opcode.{Opcode}
 use Rattle.script_syntax.specs.declared.opcode.Opcode.TheVariants as o
 use Rattle.script_syntax.specs.Opcodes.{kinds}
-use Rattle.script_syntax.specs.Picks.{in_statement, looked_at, looked, roomed, statement_in}
-use Rattle.script_syntax.specs.Machine.{At, Progress, ask, reading, spare}
+use Rattle.script_syntax.specs.Picks.{looked_at, looked, statement_in}
+use Rattle.script_syntax.specs.Machine.{At, Progress, ask, reading, spare, turned}
 use Rattle.script_syntax.specs.Machine as q
-use Rattle.script_syntax.specs.Parsing.{turned}
 use Rattle.script_syntax.proofs.Operands.{moved}
 
 module _ (from : Source) (p : Progress) (full : Bool) (r : Stream) where
@@ -78,26 +76,3 @@ pub by_statement : (a b : Feed) (o : Result (Option Opcode) GrammarFault) (p : P
 by_statement a b o p full e f mv =
     subst (λ v. Goes (reading (q.body p) a) v (λ x. reading (turned p x) b)) (sym e)
     (onward (reading (q.body p) a) (looked (statement_in full) a) _ _ (λ x. moved a b mv (turned p x)) (at-stream (source_in a) p full f (left a)))
-
--- an instruction word is read only where there is room
-roomed-room : (full : Bool) (from : Source) (w : Word) (x : Option (Option Opcode)) → IfOk (roomed full from w x) (λ y. is_some y ≡ true → full ≡ false)
-roomed-room full from w None = tt
-roomed-room full from w (Some None) = λ e. let z : ◌≡◌ {A = ℕ} 0 1 = cc in absurd (omega arith)
-roomed-room true from w (Some (Some op)) = tt
-roomed-room false from w (Some (Some op)) = λ e. refl
-
-looked-room : (full : Bool) (from : Source) (h : Result Word WordFault) → IfOk (looked_at (statement_in full from) h) (λ y. is_some y ≡ true → full ≡ false)
-looked-room full from (Ok w) = roomed-room full from w (in_statement w.sign)
-looked-room full from (Err e) = tt
-
-below : (n : ℕ) (full : Bool) → leb 64 n ≡ full → full ≡ false → n < 64
-below n full e f = omega (arith, leb-false 64 n (e ∙ f))
-
-made_map : {X : Type 0} (P Q : X → Type 0) (o : Result X GrammarFault) → ((x : X) → P x → Q x) → IfOk o P → IfOk o Q
-made_map P Q (Ok x) h g = h x g
-made_map P Q (Err e) h g = tt
-
-pub room-left : (a : Feed) (o : Result (Option Opcode) GrammarFault) (n : ℕ) (full : Bool) → o ≡ looked (statement_in full) a → leb 64 n ≡ full → IfOk o (λ y. is_some y ≡ true → n < 64)
-room-left a o n full e f =
-    subst (λ v. IfOk v (λ y. is_some y ≡ true → n < 64)) (sym e)
-    (made_map _ _ (looked (statement_in full) a) (λ y h s. below n full f (h s)) (looked-room full (source_in a) (head_of (source_in a) (left a))))

@@ -32,14 +32,14 @@ parts-named (p ∷ ps) = ap (λ l. p.ident ∷ l) (parts-named ps)
 
 -- an instruction word is the word of its instruction
 pub word_of_lem : (y : Keyword) (op : Opcode) → opcode_of y ≡ Some op → word_of op ≡ y
-word_of_lem k.Contract op e = let z : ◌≡◌ {A = ℕ} 0 1 = cc in absurd (omega arith)
-word_of_lem k.Out op e = let z : ◌≡◌ {A = ℕ} 0 1 = cc in absurd (omega arith)
-word_of_lem k.In op e = let z : ◌≡◌ {A = ℕ} 0 1 = cc in absurd (omega arith)
-word_of_lem k.Block op e = let z : ◌≡◌ {A = ℕ} 0 1 = cc in absurd (omega arith)
-word_of_lem k.Exp op e = let z : ◌≡◌ {A = ℕ} 0 1 = cc in absurd (omega arith)
-word_of_lem k.Imp op e = let z : ◌≡◌ {A = ℕ} 0 1 = cc in absurd (omega arith)
-word_of_lem k.State op e = let z : ◌≡◌ {A = ℕ} 0 1 = cc in absurd (omega arith)
-word_of_lem k.Process op e = let z : ◌≡◌ {A = ℕ} 0 1 = cc in absurd (omega arith)
+word_of_lem k.Contract op e = absurd (cc)
+word_of_lem k.Out op e = absurd (cc)
+word_of_lem k.In op e = absurd (cc)
+word_of_lem k.Block op e = absurd (cc)
+word_of_lem k.Exp op e = absurd (cc)
+word_of_lem k.Imp op e = absurd (cc)
+word_of_lem k.State op e = absurd (cc)
+word_of_lem k.Process op e = absurd (cc)
 word_of_lem k.New op e = let p : op ≡ o.New = cc in ap word_of p
 word_of_lem k.Put op e = let p : op ≡ o.Put = cc in ap word_of p
 word_of_lem k.Free op e = let p : op ≡ o.Free = cc in ap word_of p

@@ -5,4 +5,3 @@ pub mod Grammar
 pub mod Laws
 pub mod Picks
 pub mod Machine
-pub mod Parsing

@@ -1,10 +1,11 @@
 -- The instruction words, and the operands that stand behind each.
 --   word_of op         the reserved word of an instruction
 --   opcode_of y        the instruction of a reserved word, if it has one
+--   Begins y r        r is the instruction of a reserved word, if it has one
 --   Kind              what an operand is: a name, or a number from a lowest to a highest
 --   register, place, byte, distance    the numbers by their ranges
 --   kinds op          the operands of an instruction, in their order
-use Rattle.std.specs.Prelude.{List, [], ◌∷◌, ℤ, pos, negsuc, Some, None, Option}
+use Rattle.std.specs.Prelude.{◌≡◌, List, [], ◌∷◌, ℤ, pos, negsuc, Some, None, Option, Result, MatchResult}
 use Rattle.words.specs.declared.word.Keyword.{Keyword}
 use Rattle.words.specs.declared.word.Keyword.TheVariants as k
 use Rattle.script_syntax.specs.declared.opcode.Opcode.{Opcode}
@@ -45,6 +46,10 @@ opcode_of k.Case = Some Case
 opcode_of k.Lost = Some Lost
 opcode_of k.Jump = Some Jump
 opcode_of k.End = Some End
+
+-- r is the instruction that the reserved word y begins, if it begins one
+abbrev pub Begins : {E : Type 0} → Keyword → Result Opcode E → Type 0
+Begins y r = MatchResult r (λ op. opcode_of y ≡ Some op) (λ _. opcode_of y ≡ None)
 
 pub data Kind : Type 0 where
   name : Kind

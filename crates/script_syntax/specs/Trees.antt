@@ -1,13 +1,14 @@
 -- Script files as trees, and as the tables of the code.
 --   ProcessParts      a process: its name and its instructions
 --   process_of p       the process that a table of the code holds
+--   processes_of ps    the processes that a table of them holds
 --   parts t           the processes that a tree of the code holds
 --   no_process         what stands past the last process
 --   Far d             a distance is −127 to 127
 --   Within x          the numbers of an instruction are in their ranges
 --   Ranged ps         numbers are in range: one to 8 processes, at most 64 instructions each
 --   Distinct ps       no two processes have one name
-use Rattle.std.specs.Prelude.{◌≡◌, ℕ, ◌<◌, ◌≤◌, List, [], map, length, get_or, take, pos, negsuc, ◌≤ℤ◌, slice_index_or}
+use Rattle.std.specs.Prelude.{◌≡◌, ℕ, ◌<◌, ◌≤◌, List, [], map, length, get_or, pos, negsuc, ◌≤ℤ◌, slice_index_or}
 use Rattle.words.specs.declared.name.Ident.{Ident}
 use Rattle.grammar.specs.Families.{no_ident}
 use Rattle.grammar.specs.Rows.{row_items}
@@ -22,10 +23,13 @@ pub record ProcessParts : Type 0 where
   pub statements : List Statement
 
 abbrev pub process_of : Process → ProcessParts
-process_of p = record { ident = p.ident; statements = take p.count p.statements }
+process_of p = record { ident = p.ident; statements = row_items p.statements }
+
+abbrev pub processes_of : List Process → List ProcessParts
+processes_of ps = map process_of ps
 
 abbrev pub parts : Tree → List ProcessParts
-parts t = map process_of (row_items t.processes)
+parts t = processes_of (row_items t.processes)
 
 abbrev pub no_process : ProcessParts
 no_process = record { ident = no_ident; statements = [] }

@@ -1,13 +1,12 @@
 // The words that the grammar of script files asks for: each function fetches a word, and refuses one that is not allowed there.
-ghost use Rattle.std.specs.Prelude.{◌≡◌, ◌+◌, ◌≤◌, pos, negsuc, OnOk};
+ghost use Rattle.std.specs.Prelude.{◌≡◌, ◌+◌, ◌≤◌, true, false, pos, negsuc, ◌≤ℤ◌, is_some, IfOk, OnOk};
 ghost use Rattle.words.specs.Stream.{bytes_in};
-ghost use Rattle.grammar.specs.Feeds.{left, fetched, Moved};
+ghost use Rattle.grammar.specs.Feeds.{left, Moved};
 ghost use Rattle.script_syntax.specs.Grammar.{distance_of};
 ghost use Rattle.script_syntax.specs.Numbers.{natural_of, value_of};
-ghost use Rattle.script_syntax.specs.Opcodes.{opcode_of};
-ghost use Rattle.script_syntax.specs.Picks.{in_process, in_process_or_end, looked, number_in, ok, statement_in};
+ghost use Rattle.script_syntax.specs.Picks.{Counts, looked, statement_in};
 
-use crate::number::{in_range, value};
+use crate::number::value;
 use crate::opcode::Opcode;
 use crate::tree::Distance;
 use grammar::fault::GrammarFault;
@@ -15,111 +14,43 @@ use grammar::feed::Feed;
 use words::fault::Span;
 use words::word::{Keyword, Mark, Word};
 
-// The first `process` of a file.
-pub(crate) fn process(feed: &mut Feed<'_>) -> Result<(), GrammarFault>
-    ensures head { result ≡ fetched in_process feed.old }
-    ensures rest { Moved feed.old feed.new }
-    ensures left { bytes_in (left feed.new) ≤ bytes_in (left feed.old) }
+// A number from `low` to `high`, with its place.
+fn number_in(feed: &mut Feed<'_>, low: i16, high: i16) -> Result<Distance, GrammarFault>
+    ensures number { Counts distance_of low high feed.old result feed.new }
+    ensures range { IfOk result (λ n. (low ≤ℤ n.value) × (n.value ≤ℤ high)) }
 {
     let word = feed.next()?;
     match word {
-        Word::Keyword {
-            keyword: Keyword::Process,
-            ..
-        } => Ok(()),
+        Word::Number { place, bytes } => {
+            let value = value(bytes);
+            let len = bytes.len();
+            if (low..=high).contains(&value) {
+                Ok(Distance { place, len, value })
+            } else {
+                Err(GrammarFault::OutOfRange(Span {
+                    source: feed.source(),
+                    place,
+                    len,
+                }))
+            }
+        }
         _ => Err(feed.unexpected(word)),
-    }
-}
-
-// Whether one more process follows; else the text ends.
-pub(crate) fn process_or_end(feed: &mut Feed<'_>) -> Result<bool, GrammarFault>
-    ensures head { result ≡ fetched in_process_or_end feed.old }
-    ensures rest { Moved feed.old feed.new }
-    ensures left { bytes_in (left feed.new) ≤ bytes_in (left feed.old) }
-{
-    let word = feed.next()?;
-    match word {
-        Word::Keyword {
-            keyword: Keyword::Process,
-            ..
-        } => Ok(true),
-        Word::End { .. } => Ok(false),
-        _ => Err(feed.unexpected(word)),
-    }
-}
-
-// The instruction of a reserved word, if it has one.
-fn opcode(keyword: Keyword) -> Option<Opcode>
-    ensures { result ≡ opcode_of keyword }
-{
-    match keyword {
-        Keyword::New => Some(Opcode::New),
-        Keyword::Put => Some(Opcode::Put),
-        Keyword::Free => Some(Opcode::Free),
-        Keyword::Open => Some(Opcode::Open),
-        Keyword::Close => Some(Opcode::Close),
-        Keyword::Send => Some(Opcode::Send),
-        Keyword::Pass => Some(Opcode::Pass),
-        Keyword::Receive => Some(Opcode::Receive),
-        Keyword::Case => Some(Opcode::Case),
-        Keyword::Lost => Some(Opcode::Lost),
-        Keyword::Jump => Some(Opcode::Jump),
-        Keyword::End => Some(Opcode::End),
-        _ => None,
     }
 }
 
 // A number from 0 to `most`.
 pub(crate) fn small(feed: &mut Feed<'_>, most: u8) -> Result<u8, GrammarFault>
-    ensures head { result ≡ ok (λ n. natural_of (value_of n.bytes)) (looked (number_in (pos 0) (pos most)) feed.old) }
-    ensures rest { Moved feed.old feed.new }
-    ensures left { bytes_in (left feed.new) ≤ bytes_in (left feed.old) }
+    ensures { Counts (λ n. natural_of (value_of n.bytes)) (pos 0) (pos most) feed.old result feed.new }
 {
-    let word = feed.next()?;
-    match word {
-        Word::Number { place, bytes } => {
-            let v = value(bytes);
-            if in_range(0, i16::from(most), v) {
-                Ok(v as u8)
-            } else {
-                Err(GrammarFault::OutOfRange(Span {
-                    source: feed.source(),
-                    place,
-                    len: bytes.len(),
-                }))
-            }
-        }
-        _ => Err(feed.unexpected(word)),
-    }
+    let number = number_in(feed, 0, i16::from(most))?;
+    Ok(number.value as u8)
 }
 
 // A distance, from −127 to 127.
 pub(crate) fn distance(feed: &mut Feed<'_>) -> Result<Distance, GrammarFault>
-    ensures head { result ≡ ok distance_of (looked (number_in (negsuc 126) (pos 127)) feed.old) }
-    ensures rest { Moved feed.old feed.new }
-    ensures left { bytes_in (left feed.new) ≤ bytes_in (left feed.old) }
+    ensures { Counts distance_of (negsuc 126) (pos 127) feed.old result feed.new }
 {
-    let word = feed.next()?;
-    match word {
-        Word::Number { place, bytes } => {
-            let v = value(bytes);
-            let len = bytes.len();
-            if in_range(-127, 127, v) {
-                Ok(Distance {
-                    place,
-                    len,
-                    value: v,
-                })
-            } else {
-                Err(GrammarFault::OutOfRange(Span {
-                    source: feed.source(),
-                    place,
-                    len,
-                }))
-            }
-        }
-        _ => Err(feed.unexpected(word)),
-    }
+    number_in(feed, -127, 127)
 }
 
 // The instruction word that stands next, where the process is not full; none where the process ends.
@@ -131,17 +62,18 @@ pub(crate) fn statement_or_end(
     ensures rest { Moved feed.old feed.new }
     ensures left { bytes_in (left feed.new) ≤ bytes_in (left feed.old) }
     ensures spent { OnOk result (1 + bytes_in (left feed.new) ≤ bytes_in (left feed.old)) }
+    ensures room { IfOk result (λ o. is_some o ≡ true → full ≡ false) }
 {
     let word = feed.next()?;
     match word {
-        Word::Keyword { place, keyword } => match opcode(keyword) {
-            Some(_) if full => Err(GrammarFault::TooMany(Span {
+        Word::Keyword { place, keyword } => match Opcode::try_from(keyword) {
+            Ok(_) if full => Err(GrammarFault::TooMany(Span {
                 source: feed.source(),
                 place,
                 len: word.len(),
             })),
-            Some(op) => Ok(Some(op)),
-            None => Err(feed.unexpected(word)),
+            Ok(opcode) => Ok(Some(opcode)),
+            Err(_) => Err(feed.unexpected(word)),
         },
         Word::Mark {
             mark: Mark::CloseBrace,

@@ -12,7 +12,6 @@ ghost use Rattle.script_syntax.specs.Laws.{Exact, Right, outcome};
 ghost use Rattle.script_syntax.specs.Machine.{ask, start};
 ghost use Rattle.script_syntax.specs.Trees.{Distinct, Ranged, parts};
 
-mod family;
 mod fetch;
 mod number;
 mod opcode;
@@ -22,18 +21,16 @@ pub mod tree;
 
 use grammar::fault::GrammarFault;
 use grammar::feed::Feed;
-use parser::Parser;
+use parser::processes;
 use tree::Tree;
 use words::fault::Source;
 
 // The file whose words are left.
-fn parsed(feed: Feed<'_>) -> Result<Tree, GrammarFault>
+fn parsed(mut feed: Feed<'_>) -> Result<Tree, GrammarFault>
     requires { source_in feed ≡ sources.Scripts }
     ensures { outcome result ≡ run ask sources.Scripts (start []) (left feed.entry) }
 {
-    let mut parser = Parser::new(feed);
-    parser.processes()?;
-    Ok(parser.into_tree())
+    Ok(Tree::new(processes(&mut feed)?))
 }
 
 /// The processes of a text, which has at most 4,096 bytes. A refusal stands at the first spot from the left, and has the

@@ -1,6 +1,6 @@
 // The values of numbers as they are written.
 ghost use Rattle.std.specs.Prelude.{◌≡◌, ◌≤◌, ℤ};
-ghost use Rattle.script_syntax.specs.Numbers.{digit_of, is_in_range, magnitude_of, value_of};
+ghost use Rattle.script_syntax.specs.Numbers.{digit_of, magnitude_of, value_of};
 
 // The digit that a byte says.
 fn digit(b: u8) -> u16
@@ -10,7 +10,7 @@ fn digit(b: u8) -> u16
     u16::from(b.saturating_sub(b'0'))
 }
 
-// The value of one to three digits.
+// The value of one to three digits. Patterns and no fold: they bound the sum, as the callers' slices do not.
 fn magnitude(digits: &[u8]) -> u16
     ensures value { result ≡ magnitude_of digits.now }
     ensures small { result ≤ 22977 }
@@ -31,11 +31,4 @@ pub(crate) fn value(bytes: &[u8]) -> i16
         [b'-', digits @ ..] => -(magnitude(digits) as i16),
         _ => magnitude(bytes) as i16,
     }
-}
-
-/// Whether a number is one from `low` to `high`.
-pub(crate) fn in_range(low: i16, high: i16, value: i16) -> bool
-    ensures { result ≡ is_in_range low high value }
-{
-    low <= value && value <= high
 }

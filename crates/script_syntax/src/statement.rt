@@ -13,155 +13,84 @@ use crate::tree::Statement;
 use grammar::fault::GrammarFault;
 use grammar::feed::Feed;
 
-// `new r`
-fn new_block(feed: &mut Feed<'_>) -> Result<Statement, GrammarFault>
-    ensures goes { (p : q.Progress) → Goes (q.reading (q.operands p o.New [] (kinds o.New)) feed.old) result (λ x. q.reading (q.closing p x) feed.new) }
-    ensures left { bytes_in (left feed.new) ≤ bytes_in (left feed.old) }
-{
-    let register = small(feed, 7)?;
-    Ok(Statement::New { register })
-}
-
-// `put r k b`
-fn put(feed: &mut Feed<'_>) -> Result<Statement, GrammarFault>
-    ensures goes { (p : q.Progress) → Goes (q.reading (q.operands p o.Put [] (kinds o.Put)) feed.old) result (λ x. q.reading (q.closing p x) feed.new) }
-    ensures left { bytes_in (left feed.new) ≤ bytes_in (left feed.old) }
-{
-    let register = small(feed, 7)?;
-    let place = small(feed, 63)?;
-    let byte = small(feed, 255)?;
-    Ok(Statement::Put {
-        register,
-        place,
-        byte,
-    })
-}
-
-// `free r`
-fn free(feed: &mut Feed<'_>) -> Result<Statement, GrammarFault>
-    ensures goes { (p : q.Progress) → Goes (q.reading (q.operands p o.Free [] (kinds o.Free)) feed.old) result (λ x. q.reading (q.closing p x) feed.new) }
-    ensures left { bytes_in (left feed.new) ≤ bytes_in (left feed.old) }
-{
-    let register = small(feed, 7)?;
-    Ok(Statement::Free { register })
-}
-
 // `open C r s`
-fn open_channel(feed: &mut Feed<'_>) -> Result<Statement, GrammarFault>
-    ensures goes { (p : q.Progress) → Goes (q.reading (q.operands p o.Open [] (kinds o.Open)) feed.old) result (λ x. q.reading (q.closing p x) feed.new) }
-    ensures left { bytes_in (left feed.new) ≤ bytes_in (left feed.old) }
+fn open(feed: &mut Feed<'_>) -> Result<Statement, GrammarFault>
+    ensures { q.Completes o.Open feed.old result feed.new }
 {
-    let contract = feed.name()?;
-    let exporting = small(feed, 7)?;
-    let importing = small(feed, 7)?;
     Ok(Statement::Open {
-        contract,
-        exporting,
-        importing,
+        contract: feed.name()?,
+        exporting: small(feed, 7)?,
+        importing: small(feed, 7)?,
     })
-}
-
-// `close r`
-fn close(feed: &mut Feed<'_>) -> Result<Statement, GrammarFault>
-    ensures goes { (p : q.Progress) → Goes (q.reading (q.operands p o.Close [] (kinds o.Close)) feed.old) result (λ x. q.reading (q.closing p x) feed.new) }
-    ensures left { bytes_in (left feed.new) ≤ bytes_in (left feed.old) }
-{
-    let register = small(feed, 7)?;
-    Ok(Statement::Close { register })
 }
 
 // `send e C M`
 fn send(feed: &mut Feed<'_>) -> Result<Statement, GrammarFault>
-    ensures goes { (p : q.Progress) → Goes (q.reading (q.operands p o.Send [] (kinds o.Send)) feed.old) result (λ x. q.reading (q.closing p x) feed.new) }
-    ensures left { bytes_in (left feed.new) ≤ bytes_in (left feed.old) }
+    ensures { q.Completes o.Send feed.old result feed.new }
 {
-    let end = small(feed, 7)?;
-    let contract = feed.name()?;
-    let message = feed.name()?;
     Ok(Statement::Send {
-        end,
-        contract,
-        message,
+        end: small(feed, 7)?,
+        contract: feed.name()?,
+        message: feed.name()?,
     })
 }
 
 // `pass e C M t`
 fn pass(feed: &mut Feed<'_>) -> Result<Statement, GrammarFault>
-    ensures goes { (p : q.Progress) → Goes (q.reading (q.operands p o.Pass [] (kinds o.Pass)) feed.old) result (λ x. q.reading (q.closing p x) feed.new) }
-    ensures left { bytes_in (left feed.new) ≤ bytes_in (left feed.old) }
+    ensures { q.Completes o.Pass feed.old result feed.new }
 {
-    let end = small(feed, 7)?;
-    let contract = feed.name()?;
-    let message = feed.name()?;
-    let payload = small(feed, 7)?;
     Ok(Statement::Pass {
-        end,
-        contract,
-        message,
-        payload,
+        end: small(feed, 7)?,
+        contract: feed.name()?,
+        message: feed.name()?,
+        payload: small(feed, 7)?,
     })
-}
-
-// `receive e t`
-fn receive(feed: &mut Feed<'_>) -> Result<Statement, GrammarFault>
-    ensures goes { (p : q.Progress) → Goes (q.reading (q.operands p o.Receive [] (kinds o.Receive)) feed.old) result (λ x. q.reading (q.closing p x) feed.new) }
-    ensures left { bytes_in (left feed.new) ≤ bytes_in (left feed.old) }
-{
-    let end = small(feed, 7)?;
-    let payload = small(feed, 7)?;
-    Ok(Statement::Receive { end, payload })
 }
 
 // `case C M d`
 fn case(feed: &mut Feed<'_>) -> Result<Statement, GrammarFault>
-    ensures goes { (p : q.Progress) → Goes (q.reading (q.operands p o.Case [] (kinds o.Case)) feed.old) result (λ x. q.reading (q.closing p x) feed.new) }
-    ensures left { bytes_in (left feed.new) ≤ bytes_in (left feed.old) }
+    ensures { q.Completes o.Case feed.old result feed.new }
 {
-    let contract = feed.name()?;
-    let message = feed.name()?;
-    let distance = distance(feed)?;
     Ok(Statement::Case {
-        contract,
-        message,
-        distance,
+        contract: feed.name()?,
+        message: feed.name()?,
+        distance: distance(feed)?,
     })
-}
-
-// `lost d`
-fn lost(feed: &mut Feed<'_>) -> Result<Statement, GrammarFault>
-    ensures goes { (p : q.Progress) → Goes (q.reading (q.operands p o.Lost [] (kinds o.Lost)) feed.old) result (λ x. q.reading (q.closing p x) feed.new) }
-    ensures left { bytes_in (left feed.new) ≤ bytes_in (left feed.old) }
-{
-    let distance = distance(feed)?;
-    Ok(Statement::Lost { distance })
-}
-
-// `jump d`
-fn jump(feed: &mut Feed<'_>) -> Result<Statement, GrammarFault>
-    ensures goes { (p : q.Progress) → Goes (q.reading (q.operands p o.Jump [] (kinds o.Jump)) feed.old) result (λ x. q.reading (q.closing p x) feed.new) }
-    ensures left { bytes_in (left feed.new) ≤ bytes_in (left feed.old) }
-{
-    let distance = distance(feed)?;
-    Ok(Statement::Jump { distance })
 }
 
 /// The operands of an instruction, whose word was read.
 pub(crate) fn statement(feed: &mut Feed<'_>, opcode: Opcode) -> Result<Statement, GrammarFault>
-    ensures goes { (p : q.Progress) → Goes (q.reading (q.operands p opcode [] (kinds opcode)) feed.old) result (λ x. q.reading (q.closing p x) feed.new) }
-    ensures left { bytes_in (left feed.new) ≤ bytes_in (left feed.old) }
+    ensures { q.Completes opcode feed.old result feed.new }
 {
     match opcode {
-        Opcode::New => new_block(feed),
-        Opcode::Put => put(feed),
-        Opcode::Free => free(feed),
-        Opcode::Open => open_channel(feed),
-        Opcode::Close => close(feed),
+        Opcode::New => Ok(Statement::New {
+            register: small(feed, 7)?,
+        }),
+        Opcode::Put => Ok(Statement::Put {
+            register: small(feed, 7)?,
+            place: small(feed, 63)?,
+            byte: small(feed, 255)?,
+        }),
+        Opcode::Free => Ok(Statement::Free {
+            register: small(feed, 7)?,
+        }),
+        Opcode::Open => open(feed),
+        Opcode::Close => Ok(Statement::Close {
+            register: small(feed, 7)?,
+        }),
         Opcode::Send => send(feed),
         Opcode::Pass => pass(feed),
-        Opcode::Receive => receive(feed),
+        Opcode::Receive => Ok(Statement::Receive {
+            end: small(feed, 7)?,
+            payload: small(feed, 7)?,
+        }),
         Opcode::Case => case(feed),
-        Opcode::Lost => lost(feed),
-        Opcode::Jump => jump(feed),
+        Opcode::Lost => Ok(Statement::Lost {
+            distance: distance(feed)?,
+        }),
+        Opcode::Jump => Ok(Statement::Jump {
+            distance: distance(feed)?,
+        }),
         Opcode::End => Ok(Statement::End),
     }
 }

@@ -2,6 +2,7 @@
 ghost use Rattle.std.specs.Prelude.{◌≡◌};
 ghost use Rattle.grammar.specs.Rows.{row_items};
 
+use grammar::family::Named;
 use grammar::row::Row;
 use words::name::Ident;
 
@@ -64,12 +65,20 @@ pub enum Statement {
     },
 }
 
-/// A process: its name and its instructions, numbered as they appear.
+/// A process: its name and its instructions, at most 64, numbered as they appear.
 #[derive(Clone, Copy)]
 pub struct Process {
     pub ident: Ident,
-    pub count: usize,
-    pub statements: [Statement; 64],
+    pub statements: Row<Statement, 64>,
+}
+
+// A process stands among the file's under its name.
+impl Named for Process {
+    ghost named = { λ x. x.ident };
+
+    fn ident(&self) -> Ident {
+        self.ident
+    }
 }
 
 /// The processes of a script file, numbered as they appear.

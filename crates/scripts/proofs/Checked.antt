@@ -2,7 +2,7 @@
 --   short_of        a text of which a file was read is not too large
 --   refused_of      a text of which no file was read is refused
 --   spelt           a judgement of what was read is the answer to the text
-use Rattle.std.proofs.Common.{◌≡◌, ℕ, ◌<◌, ◌≤◌, List, length, Ok, Err, Result, refl, ap, subst, inl, inr, arith}
+use Rattle.std.proofs.Common.{◌≡◌, ℕ, ◌<◌, ◌≤◌, List, length, Ok, Err, Result, refl, ap, subst, inl, inr}
 use Rattle.std.proofs.lemmas.Bool.{cases_lt}
 use Rattle.words.specs.declared.fault.Source.TheVariants.{Scripts}
 use Rattle.words.specs.Reading.{too_large}
@@ -22,7 +22,7 @@ use Rattle.scripts.specs.Judgement.{Judged}
 
 module _ (text : List ℕ) (ts : List Table) where
   pub short_of : (t : Tree) (e : GrammarFault) → (4096 < length text → ◌≡◌ {A = Result Tree GrammarFault} (Ok t) (Err e)) → length text ≤ 4096
-  short_of t e h = elim (cases_lt 4096 (length text)) [ inl l ↦ (let e = h l in let z : ◌≡◌ {A = ℕ} 0 1 = cc in absurd (omega arith)) | inr l ↦ l ]
+  short_of t e h = elim (cases_lt 4096 (length text)) [ inl l ↦ (let e = h l in absurd (cc)) | inr l ↦ l ]
 
   pub refused_of : (e : GrammarFault) → (4096 < length text → ◌≡◌ {A = Result Tree GrammarFault} (Err e) (Err (g.Word (too_large Scripts))))
       → (length text ≤ 4096 → Right (words_of text) (Err e)) → Refused text ts (f.Grammar e)

@@ -1,6 +1,6 @@
 -- Where the jumps of a set lead.
 --   target_of      the target that the code computes is that of the jump
-use Rattle.std.proofs.Common.{◌≡◌, ℕ, ◌<◌, ◌≤◌, List, length, ℤ, pos, ◌+ℤ◌, Some, None, Option, sym, ap, ◌∙◌, subst, MatchOption}
+use Rattle.std.proofs.Common.{◌≡◌, ℕ, ◌<◌, ◌≤◌, List, length, ℤ, pos, ◌+ℤ◌, Some, None, Option, sym, ap, ◌∙◌, MatchOption}
 use Rattle.contracts.specs.declared.table.Table.{Table}
 use Rattle.scripts.specs.declared.instruction.Instruction.{Instruction}
 use Rattle.scripts.specs.Jumps.{Lands}
@@ -20,8 +20,6 @@ module _ (ts : List Table) (ss : List ScriptParts) (p i : ℕ) (y : Instruction)
   target None runnable outside = absurd (outside (jump_lands ts _ i _ d runnable here.1))
   target (Some t) runnable lands = (d, here, lands.0, lands.1)
 
-  pub target_of : (n : ℕ) (e : ℤ) (r : Option ℕ) → n ≡ length (instructions_of ss p) → e ≡ d → Runnable ts (length (instructions_of ss p)) i (instruction_at ss p i)
-      → MatchOption r (Lands n i e → ⊥) (λ t. (pos t ≡ pos i +ℤ e) × (t ≤ n)) → TargetOf ss p i r
-  target_of n e r count same runnable h =
-      target r runnable (subst (λ (m : ℕ). MatchOption r (Lands m i d → ⊥) (λ t. (pos t ≡ pos i +ℤ d) × (t ≤ m))) count
-      (subst (λ (z : ℤ). MatchOption r (Lands n i z → ⊥) (λ t. (pos t ≡ pos i +ℤ z) × (t ≤ n))) same h))
+  pub target_of : (n j : ℕ) (e : ℤ) (r : Option ℕ) → n ≡ length (instructions_of ss p) → j ≡ i → e ≡ d → Runnable ts (length (instructions_of ss p)) i (instruction_at ss p i)
+      → MatchOption r (Lands n j e → ⊥) (λ t. (pos t ≡ pos j +ℤ e) × (t ≤ n)) → TargetOf ss p i r
+  target_of n j e r count index same runnable h = target r runnable (rw (count, index, same) at h)

@@ -67,15 +67,15 @@ opened ts n i (Lost d) h = (far d (part h (λ x. x.0)), lands n i d (part h (λ 
 opened ts n i (Jump d) h = (far d (part h (λ x. x.0)), lands n i d (part h (λ x. x.1)))
 
 pub jump_lands : (ts : List Table) (n i : ℕ) (y : Instruction) (d : ℤ) → Runnable ts n i y → distance_of y ≡ Some d → Lands n i d
-jump_lands ts n i End d h e = let z : ◌≡◌ {A = ℕ} 0 1 = cc in absurd (omega arith)
-jump_lands ts n i (New r) d h e = let z : ◌≡◌ {A = ℕ} 0 1 = cc in absurd (omega arith)
-jump_lands ts n i (Put r k b) d h e = let z : ◌≡◌ {A = ℕ} 0 1 = cc in absurd (omega arith)
-jump_lands ts n i (Free r) d h e = let z : ◌≡◌ {A = ℕ} 0 1 = cc in absurd (omega arith)
-jump_lands ts n i (Open k r s) d h e = let z : ◌≡◌ {A = ℕ} 0 1 = cc in absurd (omega arith)
-jump_lands ts n i (Close r) d h e = let z : ◌≡◌ {A = ℕ} 0 1 = cc in absurd (omega arith)
-jump_lands ts n i (Send f k m) d h e = let z : ◌≡◌ {A = ℕ} 0 1 = cc in absurd (omega arith)
-jump_lands ts n i (Pass f k m t) d h e = let z : ◌≡◌ {A = ℕ} 0 1 = cc in absurd (omega arith)
-jump_lands ts n i (Receive f t) d h e = let z : ◌≡◌ {A = ℕ} 0 1 = cc in absurd (omega arith)
+jump_lands ts n i End d h e = absurd (cc)
+jump_lands ts n i (New r) d h e = absurd (cc)
+jump_lands ts n i (Put r k b) d h e = absurd (cc)
+jump_lands ts n i (Free r) d h e = absurd (cc)
+jump_lands ts n i (Open k r s) d h e = absurd (cc)
+jump_lands ts n i (Close r) d h e = absurd (cc)
+jump_lands ts n i (Send f k m) d h e = absurd (cc)
+jump_lands ts n i (Pass f k m t) d h e = absurd (cc)
+jump_lands ts n i (Receive f t) d h e = absurd (cc)
 jump_lands ts n i (Case k m c) d h e = let s : c ≡ d = cc in subst (Lands n i) s h.2
 jump_lands ts n i (Lost c) d h e = let s : c ≡ d = cc in subst (Lands n i) s h.1
 jump_lands ts n i (Jump c) d h e = let s : c ≡ d = cc in subst (Lands n i) s h.1

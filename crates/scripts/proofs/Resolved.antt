@@ -3,9 +3,8 @@
 --   declared-from     what has numbers in place of its names has no name that is not declared
 --   kept_from         so it is with statements in a row
 --   all-declared      so it is with the processes of a file
---   script_as         a script as the code makes it is that of the process
 --   scripts-more      one script more
-use Rattle.std.proofs.Common.{◌≡◌, ℕ, ◌+◌, List, [], ◌∷◌, ◌++◌, map, get_or, sym, ap, ◌∙◌, subst, inl, inr, arith}
+use Rattle.std.proofs.Common.{◌≡◌, ℕ, ◌+◌, List, [], ◌∷◌, ◌++◌, get_or, ap, ◌∙◌, subst, inl, inr, arith}
 use Rattle.std.proofs.lemmas.List.{map-append}
 use Rattle.std.proofs.lemmas.Bool.{cases_lt}
 use Rattle.words.specs.declared.fault.Span.{Span}
@@ -13,16 +12,14 @@ use Rattle.words.specs.declared.name.Ident.{Ident}
 use Rattle.contracts.specs.declared.table.Table.{Table}
 use Rattle.contracts.specs.Rules.{First}
 use Rattle.contracts.proofs.Numbered.{EachBelow, pushed}
-use Rattle.script_syntax.specs.declared.tree.Process.{Process}
 use Rattle.script_syntax.specs.declared.tree.Statement.{Statement}
 use Rattle.script_syntax.specs.declared.tree.Statement.TheVariants as s
-use Rattle.script_syntax.specs.Trees.{ProcessParts, no_process, process_of}
+use Rattle.script_syntax.specs.Trees.{ProcessParts}
 use Rattle.scripts.specs.declared.instruction.Instruction.{Instruction}
 use Rattle.scripts.specs.declared.script.Script.{Script}
 use Rattle.scripts.specs.Names.{MessageNamed, NoPair, PairOf, Resolves, Undeclared}
-use Rattle.scripts.specs.Places.{KeptBy, KeptIn, statements_of}
-use Rattle.scripts.specs.Scripts.{InstructionsAs, no_script, ScriptAs, ScriptParts, ScriptsAs, script_of, scripts_of}
-use Rattle.scripts.proofs.Parted.{blank, process-at}
+use Rattle.scripts.specs.Places.{KeptBy, KeptIn}
+use Rattle.scripts.specs.Scripts.{InstructionsAs, no_script, ScriptParts, ScriptsAs, script_of, scripts_of}
 
 pub first-once : (P : ℕ → Type 0) (i j : ℕ) → First P i → First P j → i ≡ j
 first-once P i j p q =
@@ -55,14 +52,6 @@ kept_from ts xs ys all i l sp u = declared-from ts (get_or xs i s.End) _ (all.ea
 
 pub all-declared : (ts : List Table) (ps : List ProcessParts) (ss : List ScriptParts) → ScriptsAs ts ps ss → KeptBy (λ n i. Undeclared ts) ps
 all-declared ts ps ss all p l = kept_from ts _ _ (all.each p l).instructions
-
-module _ (ts : List Table) (ps : List Process) (p : ℕ) where
-  pub script_as : (made : Script) (xs : List Statement) → made.name ≡ (get_or ps p blank).ident.name → xs ≡ statements_of (map process_of ps) p
-      → InstructionsAs ts xs (script_of made).instructions → ScriptAs ts (get_or (map process_of ps) p no_process) (script_of made)
-  script_as made xs named read all = record {
-    name = named ∙ sym (ap (λ x. x.ident.name) (process-at ps p));
-    instructions = subst (λ zs. InstructionsAs ts zs (script_of made).instructions) read all;
-  }
 
 pub scripts-more : (P : ℕ → ScriptParts → Type 0) (ss rs : List Script) (made : Script) (n : ℕ) → EachBelow P no_script (scripts_of ss) n → rs ≡ ss ++ made ∷ [] → P n (script_of made)
     → EachBelow P no_script (scripts_of rs) (n + 1)

@@ -10,7 +10,8 @@
 --   NoPair ts c m s           s is where c or m stands: c, where it is no contract's name, else m, where it is no name of that contract's messages
 --   Resolves ts x y           y is the statement x with numbers in place of names
 --   Undeclared ts x s         s is where a name of the statement x stands that is not declared in its family, its contract's name before its message's
-use Rattle.std.specs.Prelude.{◌≡◌, ℕ, ◌⊎◌, List, length}
+--   ResolvedAs ts x r         r is the statement x with numbers in place of names, or where its first name stands that is not declared
+use Rattle.std.specs.Prelude.{◌≡◌, ℕ, ◌⊎◌, List, length, Result, MatchResult}
 use Rattle.words.specs.declared.fault.Source.TheVariants.{Scripts}
 use Rattle.words.specs.declared.fault.Span.{Span}
 use Rattle.words.specs.declared.name.Ident.{Ident}
@@ -78,3 +79,6 @@ Undeclared ts (s.Receive e t) sp = ⊥
 Undeclared ts (s.Case c m d) sp = NoPair ts c m sp
 Undeclared ts (s.Lost d) sp = ⊥
 Undeclared ts (s.Jump d) sp = ⊥
+
+abbrev pub ResolvedAs : List Table → Statement → Result Instruction Span → Type 0
+ResolvedAs ts x r = MatchResult r (Resolves ts x) (Undeclared ts x)

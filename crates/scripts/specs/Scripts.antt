@@ -8,8 +8,9 @@
 --   InstructionsAs ts xs ys   ys are the statements xs with numbers in place of names
 --   ScriptAs ts x y       y is the process x with numbers in place of names
 --   ScriptsAs ts ps ss    ss are the processes ps with numbers in place of names
-use Rattle.std.specs.Prelude.{◌≡◌, ℕ, ◌<◌, List, [], map, length, take, slice_index_or}
+use Rattle.std.specs.Prelude.{◌≡◌, ℕ, ◌<◌, List, [], map, length, slice_index_or}
 use Rattle.words.specs.declared.name.Name.{Name}
+use Rattle.grammar.specs.Rows.{row_items}
 use Rattle.contracts.specs.declared.table.Table.{Table}
 use Rattle.contracts.specs.Numbers.{no_name}
 use Rattle.script_syntax.specs.declared.tree.Statement.{Statement}
@@ -25,7 +26,7 @@ pub record ScriptParts : Type 0 where
   pub instructions : List Instruction
 
 abbrev pub script_of : Script → ScriptParts
-script_of s = record { name = s.name; instructions = take s.count s.instructions }
+script_of s = record { name = s.name; instructions = row_items s.instructions }
 
 abbrev pub scripts_of : List Script → List ScriptParts
 scripts_of ss = map script_of ss

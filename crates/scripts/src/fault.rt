@@ -19,13 +19,13 @@ pub enum ScriptFault {
     JumpOutside(Span),
 }
 
-impl ScriptFault {
-    /// What the station shows of a script fault: 8, 15 or 16 in layer 3, or what it shows of a grammar fault.
-    pub fn report(self) -> Report
-        ensures { result ≡ script_report self }
-    {
-        match self {
-            ScriptFault::Grammar(fault) => fault.report(),
+/// What the station shows of a script fault: 8, 15 or 16 in layer 3, or what it shows of a grammar fault.
+impl From<ScriptFault> for Report {
+    ghost from_gives = { λ f r. r ≡ script_report f };
+
+    fn from(fault: ScriptFault) -> Report {
+        match fault {
+            ScriptFault::Grammar(fault) => fault.into(),
             ScriptFault::Undeclared(span) => span.report(8, 3),
             ScriptFault::WrongPayload(span) => span.report(15, 3),
             ScriptFault::JumpOutside(span) => span.report(16, 3),

@@ -2,6 +2,7 @@
 ghost use Rattle.std.specs.Prelude.{◌≡◌};
 ghost use Rattle.scripts.specs.Kinds.{distance_of, kind_of};
 
+// Not one type with `Statement`: it would take a parameter each for contracts, messages and distances, and be no plainer.
 /// An instruction of a script. Registers are 0 to 7, places in a block 0 to 63, bytes 0 to 255; contracts and messages go
 /// by their numbers in the contract set, and a jump by its distance from the instruction's own number.
 #[derive(Clone, Copy)]
@@ -55,6 +56,7 @@ pub enum Instruction {
 }
 
 impl Instruction {
+    // A method and no `From`: the number says the kind and not the instruction, so `kind` says more at a call.
     /// The number of the instruction's kind, 0 to 11: new, put, free, open, close, send, pass, receive, case, lost, jump, end.
     pub fn kind(self) -> u8
         ensures { result ≡ kind_of self }
@@ -74,6 +76,7 @@ impl Instruction {
             Instruction::End => 11,
         }
     }
+
     // The distance of a jump.
     pub(crate) fn distance(self) -> Option<i16>
         ensures { result ≡ distance_of self }

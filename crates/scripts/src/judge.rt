@@ -29,10 +29,10 @@ pub(crate) fn judge(tree: &Tree, contracts: &ContractSet) -> Result<Row<Script, 
         Ok(all) => all,
         Err(span) => return Err(ScriptFault::Undeclared(span)),
     };
-    if let Some(span) = earliest(&Payloads, contracts, processes) {
+    if let Some(span) = earliest(&Payloads { contracts }, processes) {
         return Err(ScriptFault::WrongPayload(span));
     }
-    if let Some(span) = earliest(&Jumps, contracts, processes) {
+    if let Some(span) = earliest(&Jumps, processes) {
         return Err(ScriptFault::JumpOutside(span));
     }
     Ok(all)

@@ -3,15 +3,14 @@
 
 pub mod check;
 pub mod fault;
-mod front;
 pub mod instruction;
 mod judge;
 mod jumps;
 mod payloads;
+mod position;
 pub mod refusal;
 mod resolution;
 mod resolve;
 mod rule;
 mod script;
 pub mod set;
-mod span;

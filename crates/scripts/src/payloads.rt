@@ -4,47 +4,46 @@ ghost use Rattle.contracts.specs.View.{tables_in};
 ghost use Rattle.scripts.specs.Names.{PairOf};
 ghost use Rattle.scripts.specs.Payloads.{Carrying, WrongPayload as Wrong};
 
+use crate::position::Position;
 use crate::resolve::pair_of;
 use crate::rule::Rule;
-use crate::span::span_of;
 use contracts::declaration::Payload;
 use contracts::set::ContractSet;
 use script_syntax::tree::Statement;
-use words::fault::Span;
+use words::fault::{Source, Span};
 use words::name::Ident;
 
-// What the message of a contract carries, both by their names; none where one of the names is not declared.
-fn payload_of(contracts: &ContractSet, contract: Ident, message: Ident) -> Option<Payload>
-    ensures { MatchOption result ((k n : ℕ) → PairOf (tables_in contracts.now) contract message k n → ⊥)
-        (λ p. Carrying (λ q. q ≡ p) (tables_in contracts.now) contract message) }
-{
-    let (k, m) = pair_of(contracts, contract, message).ok()?;
-    let found = contracts.message(k as usize, m as usize)?;
-    Some(found.payload)
+/// What a message carries fits the statement that sends it.
+#[derive(Clone, Copy)]
+pub(crate) struct Payloads<'a> {
+    pub contracts: &'a ContractSet,
 }
 
-/// What a message carries fits the statement that sends it.
-pub(crate) struct Payloads;
+impl Payloads<'_> {
+    // What the message of a contract carries, both by their names; none where one of the names is not declared.
+    fn payload_of(&self, contract: Ident, message: Ident) -> Option<Payload>
+        ensures { MatchOption result ((k n : ℕ) → PairOf (tables_in self.now.contracts.now) contract message k n → ⊥)
+            (λ p. Carrying (λ q. q ≡ p) (tables_in self.now.contracts.now) contract message) }
+    {
+        let (k, m) = pair_of(self.contracts, contract, message).ok()?;
+        let found = self.contracts.message(k as usize, m as usize)?;
+        Some(found.payload)
+    }
+}
 
-impl Rule for Payloads {
-    ghost breaks = { λ ts n i x s. Wrong ts x s };
+impl Rule for Payloads<'_> {
+    ghost breaks = { λ rule n i x s. Wrong (tables_in rule.contracts.now) x s };
 
-    fn fault(
-        &self,
-        contracts: &ContractSet,
-        _count: usize,
-        _i: usize,
-        statement: Statement,
-    ) -> Option<Span> {
+    fn fault(&self, _at: Position, statement: Statement) -> Option<Span> {
         match statement {
             Statement::Send {
                 contract,
                 message,
                 ..
             } => {
-                match payload_of(contracts, contract, message) {
+                match self.payload_of(contract, message) {
                     Some(Payload::Nothing) | None => None,
-                    Some(_) => Some(span_of(message)),
+                    Some(_) => Some(message.span(Source::Scripts)),
                 }
             }
             Statement::Pass {
@@ -52,8 +51,8 @@ impl Rule for Payloads {
                 message,
                 ..
             } => {
-                match payload_of(contracts, contract, message) {
-                    Some(Payload::Nothing) => Some(span_of(message)),
+                match self.payload_of(contract, message) {
+                    Some(Payload::Nothing) => Some(message.span(Source::Scripts)),
                     _ => None,
                 }
             }

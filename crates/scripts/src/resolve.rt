@@ -2,13 +2,12 @@
 ghost use Rattle.std.specs.Prelude.{◌<◌, ◌≤◌, length, MatchResult};
 ghost use Rattle.contracts.specs.View.{tables_in};
 ghost use Rattle.script_syntax.specs.declared.tree.Statement.TheVariants.{Case, Open, Pass, Send};
-ghost use Rattle.scripts.specs.Names.{ContractOf, MessageOf, NoContract, NoMessage, NoPair, PairOf, Resolves, Undeclared};
+ghost use Rattle.scripts.specs.Names.{ContractOf, MessageOf, NoContract, NoMessage, NoPair, PairOf, ResolvedAs};
 
 use crate::instruction::Instruction;
-use crate::span::span_of;
 use contracts::set::ContractSet;
 use script_syntax::tree::{Distance, Statement};
-use words::fault::Span;
+use words::fault::{Source, Span};
 use words::name::Ident;
 
 // The contract of a name.
@@ -17,7 +16,7 @@ fn contract_of(contracts: &ContractSet, ident: Ident) -> Result<u8, Span>
 {
     match contracts.find_contract(ident.name) {
         Some(k) => Ok(k as u8),
-        None => Err(span_of(ident)),
+        None => Err(ident.span(Source::Scripts)),
     }
 }
 
@@ -27,7 +26,7 @@ fn message_of(contracts: &ContractSet, contract: u8, ident: Ident) -> Result<u8,
 {
     match contracts.find_message(contract as usize, ident.name) {
         Some(m) => Ok(m as u8),
-        None => Err(span_of(ident)),
+        None => Err(ident.span(Source::Scripts)),
     }
 }
 
@@ -44,6 +43,8 @@ pub(crate) fn pair_of(
     Ok((k, m))
 }
 
+// Each statement that has names is a function of its own: one `match` over all fields would be twice as long, and no plainer.
+
 // `open` with numbers in place of names.
 fn open(
     contracts: &ContractSet,
@@ -51,7 +52,7 @@ fn open(
     exporting: u8,
     importing: u8,
 ) -> Result<Instruction, Span>
-    ensures { MatchResult result (Resolves (tables_in contracts.now) (Open contract exporting importing)) (Undeclared (tables_in contracts.now) (Open contract exporting importing)) }
+    ensures { ResolvedAs (tables_in contracts.now) (Open contract exporting importing) result }
 {
     let contract = contract_of(contracts, contract)?;
     Ok(Instruction::Open {
@@ -68,7 +69,7 @@ fn send(
     contract: Ident,
     message: Ident,
 ) -> Result<Instruction, Span>
-    ensures { MatchResult result (Resolves (tables_in contracts.now) (Send end contract message)) (Undeclared (tables_in contracts.now) (Send end contract message)) }
+    ensures { ResolvedAs (tables_in contracts.now) (Send end contract message) result }
 {
     let (contract, message) = pair_of(contracts, contract, message)?;
     Ok(Instruction::Send {
@@ -86,7 +87,7 @@ fn pass(
     message: Ident,
     payload: u8,
 ) -> Result<Instruction, Span>
-    ensures { MatchResult result (Resolves (tables_in contracts.now) (Pass end contract message payload)) (Undeclared (tables_in contracts.now) (Pass end contract message payload)) }
+    ensures { ResolvedAs (tables_in contracts.now) (Pass end contract message payload) result }
 {
     let (contract, message) = pair_of(contracts, contract, message)?;
     Ok(Instruction::Pass {
@@ -104,7 +105,7 @@ fn case(
     message: Ident,
     distance: Distance,
 ) -> Result<Instruction, Span>
-    ensures { MatchResult result (Resolves (tables_in contracts.now) (Case contract message distance)) (Undeclared (tables_in contracts.now) (Case contract message distance)) }
+    ensures { ResolvedAs (tables_in contracts.now) (Case contract message distance) result }
 {
     let (contract, message) = pair_of(contracts, contract, message)?;
     Ok(Instruction::Case {
@@ -116,7 +117,7 @@ fn case(
 
 /// A statement with numbers in place of names, or where the first of its names stands that is not declared in its family.
 pub(crate) fn resolve(contracts: &ContractSet, statement: Statement) -> Result<Instruction, Span>
-    ensures { MatchResult result (Resolves (tables_in contracts.now) statement) (Undeclared (tables_in contracts.now) statement) }
+    ensures { ResolvedAs (tables_in contracts.now) statement result }
 {
     match statement {
         Statement::End => Ok(Instruction::End),

@@ -2,7 +2,7 @@
 ghost use Rattle.scripts.specs.View.{scripts_in, TargetOf};
 
 use super::ScriptSet;
-use crate::jumps::target;
+use crate::position::Position;
 
 impl ScriptSet {
     /// Where the jump leads that is instruction `i` of a process (`case`, `lost` or `jump`): to one of 0 to the number of its
@@ -13,6 +13,6 @@ impl ScriptSet {
         let count = self.instruction_count(process)?;
         let instruction = self.instruction(process, i)?;
         let distance = instruction.distance()?;
-        target(count, i, distance)
+        Position::new(i, count).target(distance)
     }
 }

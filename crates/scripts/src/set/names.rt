@@ -12,13 +12,6 @@ impl ScriptSet {
         ensures answer { MatchOption result (Never (ProcessNamed (scripts_in self.now) name)) (ProcessNamed (scripts_in self.now) name) }
         ensures only { (p : ℕ) → ProcessNamed (scripts_in self.now) name p → result ≡ Some p }
     {
-        for p in 0..8 {
-            if let Some(own) = self.process_name(p) {
-                if own.same(name) {
-                    return Some(p);
-                }
-            }
-        }
-        None
+        self.scripts().iter().position(|script| script.name == name)
     }
 }

@@ -1,5 +1,5 @@
 // What an accepted set answers about its processes.
-ghost use Rattle.std.specs.Prelude.{◌≡◌, ◌<◌, ◌≤◌, length};
+ghost use Rattle.std.specs.Prelude.{◌≡◌, ◌<◌, ◌≤◌, length, MatchOption};
 ghost use Rattle.scripts.specs.Scripts.{instructions_of, script_at, script_of, scripts_of};
 ghost use Rattle.scripts.specs.View.{OfInstruction, OfProcess, scripts_in};
 
@@ -18,7 +18,7 @@ impl ScriptSet {
     }
 
     // The scripts of the processes.
-    fn scripts(&self) -> &[Script]
+    pub(super) fn scripts(&self) -> &[Script]
         ensures scripts { scripts_of result.now ≡ scripts_in self.now }
         ensures count { length result.now ≡ length (scripts_in self.now) }
     {
@@ -34,45 +34,33 @@ impl ScriptSet {
         self.scripts().len()
     }
 
-    // The script of process `p`.
-    fn script(&self, p: usize) -> &Script
-        requires { p < length (scripts_in self.now) }
-        ensures { script_of result.now ≡ script_at (scripts_in self.now) p }
+    // The script of a process; none where there is no such process.
+    fn script(&self, process: usize) -> Option<&Script>
+        ensures { MatchOption result (length (scripts_in self.now) ≤ process)
+            (λ s. (process < length (scripts_in self.now)) × (script_of s.now ≡ script_at (scripts_in self.now) process)) }
     {
-        &self.scripts()[p]
+        self.scripts().get(process)
     }
 
     /// The name of a process; none where there is no such process.
     pub fn process_name(&self, process: usize) -> Option<Name>
         ensures answer { OfProcess (scripts_in self.now) process (script_at (scripts_in self.now) process).name result }
     {
-        if process >= self.process_count() {
-            return None;
-        }
-        Some(self.script(process).name)
+        Some(self.script(process)?.name)
     }
 
     /// How many instructions a process has, at most 64; none where there is no such process.
     pub fn instruction_count(&self, process: usize) -> Option<usize>
         ensures answer { OfProcess (scripts_in self.now) process (length (instructions_of (scripts_in self.now) process)) result }
     {
-        if process >= self.process_count() {
-            return None;
-        }
-        Some(self.script(process).instructions().len())
+        Some(self.script(process)?.instructions.as_slice().len())
     }
 
     /// An instruction of a process; none where there is no such process or instruction.
     pub fn instruction(&self, process: usize, i: usize) -> Option<Instruction>
         ensures answer { OfInstruction (scripts_in self.now) process i result }
     {
-        if process >= self.process_count() {
-            return None;
-        }
-        let instructions = self.script(process).instructions();
-        if i >= instructions.len() {
-            return None;
-        }
-        Some(instructions[i])
+        let script = self.script(process)?;
+        script.instructions.as_slice().get(i).copied()
     }
 }

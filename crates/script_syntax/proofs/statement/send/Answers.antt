@@ -1,6 +1,6 @@
-use Rattle.std.proofs.Common.{rules}
+use Rattle.std.proofs.Common.{rules, arith}
 use Rattle.script_syntax.proofs.Lines.{send_read}
 use Rattle.script_syntax.proofs.statement.send.Goals as goal
 
-pub returns-clause-goes : goal.returns-clause-goes
-returns-clause-goes c = search (rules, send_read)
+pub returns : goal.returns
+returns c = record { goes = λ p. search (rules, send_read); fewer = omega arith }

@@ -1,8 +1,7 @@
-use Rattle.std.proofs.Common.{ℕ, ◌<◌, map}
-use Rattle.contracts.specs.View.{tables_in}
-use Rattle.script_syntax.specs.Trees.{process_of}
+use Rattle.std.proofs.Common.{ℕ, ◌<◌}
+use Rattle.script_syntax.specs.Trees.{processes_of}
 use Rattle.scripts.specs.Places.{KeptIn, statements_of}
 use Rattle.scripts.proofs.rule.earliest.Given as goal
 
-abbrev pub invariant-loop-p : goal.invariant-loop-p
-invariant-loop-p g l = (q : ℕ) → q < l.p → KeptIn (g.R.Rule.breaks (tables_in l.contracts)) (statements_of (map process_of l.processes) q)
+abbrev pub invariant-loop-process : goal.invariant-loop-process
+invariant-loop-process g l = (q : ℕ) → q < l.process-index → KeptIn (g.R.Rule.breaks l.rule) (statements_of (processes_of l.processes) q)
