@@ -3,6 +3,7 @@
 --   LineStart front r         the last line of front begins at r
 --   fault_text f               "fault N layer L text T place P length Q"
 --   position_of file l c       "FILE:LINE:COLUMN"
+--   underline n q              n spaces, and then as many marks as a word of q bytes has, or one
 --   page_of                    the lines of a refusal
 --   Explains file text f s    s has the fault line, file, line and column, the line with the word underlined, and some words
 --   shown_byte b               what is printed for b: itself, or a space where it cannot be printed
@@ -32,6 +33,9 @@ shown_byte b = cond (nat_le 32 b && nat_lt b 127) b 32
 abbrev pub position_of : List ℕ → ℕ → ℕ → List ℕ
 position_of file line column = file ++ (codes ":" ++ (decimal line ++ (codes ":" ++ decimal column)))
 
+abbrev pub underline : ℕ → ℕ → List ℕ
+underline indent len = replicate indent 32 ++ replicate (max len 1) 94
+
 abbrev pub page_of : List ℕ → List ℕ → List ℕ → List ℕ → ℕ → List ℕ → List ℕ
 page_of fault place row mark number words =
     fault ++ (codes "\n" ++ (place ++ (codes "\n" ++ (row ++ (codes "\n" ++ (mark ++ (codes "\nrefused " ++ (decimal number ++ (codes ": "
@@ -45,4 +49,4 @@ pub record Explains (file text : List ℕ) (f : Report) (s : List ℕ) : Type 0 
   pub says : s ≡ page_of (fault_text f)
       (position_of file (min (count_by is_line_feed (take f.place text) + 1) (2 ^ 64 - 1)) (min (length (take f.place text) - start + 1) (2 ^ 64 - 1)))
       (map shown_byte (take (prefix_len in_line (drop start text)) (drop start text)))
-      (replicate (length (take f.place text) - start) 32 ++ replicate (max f.len 1) 94) f.number words
+      (underline (length (take f.place text) - start) f.len) f.number words
