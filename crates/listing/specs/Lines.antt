@@ -7,6 +7,7 @@
 --   page_of                    the lines of a refusal
 --   Explains file text f s    s has the fault line, file, line and column, the line with the word underlined, and some words
 --   shown_byte b               what is printed for b: itself, or a space where it cannot be printed
+--   on_one_line b             what is printed for b where a text is shown on one line: a bar where a line ends
 use Rattle.std.specs.Prelude.{◌≡◌, ℕ, ◌+◌, ◌-◌, ◌^◌, ◌<◌, ◌≤◌, min, max, Bool, cond, not, ◌&&◌, ◌⊎◌, List, ◌++◌, map, length, take, drop, replicate, codes, decimal, count_by, ◌==◌, ◌≢◌, nat_le, nat_lt, slice_index}
 use Rattle.std.specs.List.{prefix_len}
 use Rattle.words.specs.declared.fault.Report.{Report}
@@ -29,6 +30,9 @@ fault_text f =
 
 abbrev pub shown_byte : ℕ → ℕ
 shown_byte b = cond (nat_le 32 b && nat_lt b 127) b 32
+
+abbrev pub on_one_line : ℕ → ℕ
+on_one_line b = cond (b == 10) 124 (shown_byte b)
 
 abbrev pub position_of : List ℕ → ℕ → ℕ → List ℕ
 position_of file line column = file ++ (codes ":" ++ (decimal line ++ (codes ":" ++ decimal column)))
