@@ -5,24 +5,14 @@ use std::test::Fail;
 
 // The bounds of the first contract, where the text is accepted.
 fn bounds(text: &[u8]) -> Option<(u8, u8)> {
-    let Ok(set) = check(text) else {
-        return None;
-    };
-    match (set.out_bound(0), set.in_bound(0)) {
-        (Some(out_bound), Some(in_bound)) => Some((out_bound, in_bound)),
-        _ => None,
-    }
+    let set = check(text).ok()?;
+    Some((set.out_bound(0)?, set.in_bound(0)?))
 }
 
-// Number, place and length of the fault; zeros where the text is accepted.
-fn fault(text: &[u8]) -> (u8, usize, usize) {
-    match check(text) {
-        Ok(_) => (0, 0, 0),
-        Err(fault) => {
-            let report = fault.report();
-            (report.number, report.place, report.len)
-        }
-    }
+// Number, place and length of the fault; none where the text is accepted.
+fn fault(text: &[u8]) -> Option<(u8, usize, usize)> {
+    let report = check(text).err()?.report();
+    Some((report.number, report.place, report.len))
 }
 
 #[test]
@@ -36,13 +26,13 @@ fn a_scale_has_bounds_one_and_one(rt: HostRuntime) {
 fn faults_stand_at_their_words(rt: HostRuntime) {
     assert_eq!(rt;
         fault(b"contract A { out M; state S { M! -> S; } }"),
-        (13, 26, 1)
+        Some((13, 26, 1))
     );
     assert_eq!(rt;
         fault(b"contract A { out M; in N; state S { M! -> S; N? -> S; } }"),
-        (11, 45, 1)
+        Some((11, 45, 1))
     );
-    assert_eq!(rt; fault(b""), (4, 0, 0));
+    assert_eq!(rt; fault(b""), Some((4, 0, 0)));
 }
 
 #[test]

@@ -1,7 +1,7 @@
 // `finds check CONTRACTS` tries a contract file; `finds help` says how to call the program.
 #![tactic(auto)]
 
-use anyhow::anyhow;
+use anyhow::bail;
 use contracts::check::check;
 use listing::accepted::list_contracts;
 use listing::refused::explain;
@@ -14,9 +14,8 @@ const HELP: &str =
 fn check_file(rt: &HostRuntime, path: &str) -> anyhow::Result<()> {
     let heap = rt.alloc();
     let Ok(text) = fs::read(rt, path) else {
-        rt.print("cannot read ")?;
-        rt.println(path)?;
-        return Err(anyhow!("a file cannot be read"));
+        println!(rt; "cannot read {path}")?;
+        bail!("a file cannot be read");
     };
     match check(text.as_slice()) {
         Ok(set) => {
@@ -25,31 +24,22 @@ fn check_file(rt: &HostRuntime, path: &str) -> anyhow::Result<()> {
         }
         Err(fault) => {
             rt.print(explain(heap, path, text.as_slice(), fault.report())?)?;
-            Err(anyhow!("the contracts are refused"))
+            bail!("the contracts are refused")
         }
     }
 }
 
 fn main(rt: HostRuntime) -> anyhow::Result<()> {
-    let mut words = env::args(&rt)?;
-    let _ = words.next();
-    let command = words.next();
-    let path = words.next();
-    let more = words.next();
-    match (command, path, more) {
-        (Some(command), Some(path), None) => {
-            if command.as_str() == "check" {
-                return check_file(&rt, path.as_str());
-            }
+    let words = env::args(&rt)?.collect::<Vec<String>>(rt.alloc())?;
+    match words.as_slice() {
+        [_, command, path] if command.as_str() == "check" => check_file(&rt, path.as_str()),
+        [_, command] if command.as_str() == "help" => {
+            rt.print(HELP)?;
+            Ok(())
         }
-        (Some(command), None, None) => {
-            if command.as_str() == "help" {
-                rt.print(HELP)?;
-                return Ok(());
-            }
+        _ => {
+            rt.print(HELP)?;
+            bail!("no such command")
         }
-        _ => {}
     }
-    rt.print(HELP)?;
-    Err(anyhow!("no such command"))
 }

@@ -1,3 +1,1 @@
-pub mod Replicates
-pub mod Shown
 pub mod Joined

@@ -3,9 +3,11 @@
 --   LineStart front r         the last line of front begins at r
 --   fault_text f               "fault N layer L text T place P length Q"
 --   position_of file l c       "FILE:LINE:COLUMN"
+--   underline n q              n spaces, and then as many marks as a word of q bytes has, or one
 --   page_of                    the lines of a refusal
 --   Explains file text f s    s has the fault line, file, line and column, the line with the word underlined, and some words
 --   shown_byte b               what is printed for b: itself, or a space where it cannot be printed
+--   on_one_line b             what is printed for b where a text is shown on one line: a bar where a line ends
 use Rattle.std.specs.Prelude.{◌≡◌, ℕ, ◌+◌, ◌-◌, ◌^◌, ◌<◌, ◌≤◌, min, max, Bool, cond, not, ◌&&◌, ◌⊎◌, List, ◌++◌, map, length, take, drop, replicate, codes, decimal, count_by, ◌==◌, ◌≢◌, nat_le, nat_lt, slice_index}
 use Rattle.std.specs.List.{prefix_len}
 use Rattle.words.specs.declared.fault.Report.{Report}
@@ -29,8 +31,14 @@ fault_text f =
 abbrev pub shown_byte : ℕ → ℕ
 shown_byte b = cond (nat_le 32 b && nat_lt b 127) b 32
 
+abbrev pub on_one_line : ℕ → ℕ
+on_one_line b = cond (b == 10) 124 (shown_byte b)
+
 abbrev pub position_of : List ℕ → ℕ → ℕ → List ℕ
 position_of file line column = file ++ (codes ":" ++ (decimal line ++ (codes ":" ++ decimal column)))
+
+abbrev pub underline : ℕ → ℕ → List ℕ
+underline indent len = replicate indent 32 ++ replicate (max len 1) 94
 
 abbrev pub page_of : List ℕ → List ℕ → List ℕ → List ℕ → ℕ → List ℕ → List ℕ
 page_of fault place row mark number words =
@@ -45,4 +53,4 @@ pub record Explains (file text : List ℕ) (f : Report) (s : List ℕ) : Type 0 
   pub says : s ≡ page_of (fault_text f)
       (position_of file (min (count_by is_line_feed (take f.place text) + 1) (2 ^ 64 - 1)) (min (length (take f.place text) - start + 1) (2 ^ 64 - 1)))
       (map shown_byte (take (prefix_len in_line (drop start text)) (drop start text)))
-      (replicate (length (take f.place text) - start) 32 ++ replicate (max f.len 1) 94) f.number words
+      (underline (length (take f.place text) - start) f.len) f.number words

@@ -1,8 +1,10 @@
 -- The listing of an accepted set.
+--   table_of c              the table of a contract of a set
 --   lines f n               f 0 to f (n - 1), one after the other
 --   way_text d, sign_text d, role_text r     "out" or "in", "!" or "?", "exp" or "imp"
 --   message_line x           " message WAY NAME [block | ROLE C S]"
 --   move_line m d u          "  move M! T"
+--   state_lines x f          " state NAME" with the name x, and below it the lines of f
 --   move_text t s m, state_text t s, message_text t m     the move of a state for a message, if any; a state with its moves; a message
 --   contract_text t b c      a contract with the bounds b and c
 --   ListsContract ts k s    s lists contract k, with the moves on its longest one-way paths as its bounds
@@ -20,8 +22,12 @@ use Rattle.contracts.specs.declared.table.Table.{Table}
 use Rattle.contracts.specs.Paths.{Longest}
 use Rattle.contracts.specs.Rules.{OneWay}
 use Rattle.contracts.specs.Tables.{message_at, messages, state_at, states, table_at}
-use Rattle.contracts.specs.View.{target_at}
+use Rattle.contracts.specs.View.{tables_in, target_at}
+use Rattle.listing.specs.declared.accepted.Contract.{Contract}
 use Rattle.listing.specs.Lines.{shown_byte}
+
+abbrev pub table_of : Contract → Table
+table_of c = table_at (tables_in c.set.now) c.number
 
 unfoldable pub lines : (ℕ → List ℕ) → ℕ → List ℕ
 lines f zero = []
@@ -61,8 +67,11 @@ message_text t m = cond (nat_lt m (messages t)) (message_line (message_at t m)) 
 abbrev pub move_text : Table → ℕ → ℕ → List ℕ
 move_text t s m = cond (nat_lt m (messages t)) (move_line m (message_at t m).mark (target_at t s m)) []
 
+abbrev pub state_lines : Name → (ℕ → List ℕ) → List ℕ
+state_lines x f = codes " state " ++ (name_text x ++ (codes "\n" ++ lines f 16))
+
 abbrev pub state_text : Table → ℕ → List ℕ
-state_text t s = cond (nat_lt s (states t)) (codes " state " ++ (name_text (state_at t s) ++ (codes "\n" ++ lines (move_text t s) 16))) []
+state_text t s = cond (nat_lt s (states t)) (state_lines (state_at t s) (move_text t s)) []
 
 abbrev pub contract_text : Table → ℕ → ℕ → List ℕ
 contract_text t b c =

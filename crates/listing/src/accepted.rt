@@ -1,207 +1,261 @@
 // The listing of an accepted set of contracts: a line for each contract, message, state and move.
-ghost use Rattle.std.specs.Prelude.{◌≡◌, ◌<◌, length, IfOk, Some, string_bytes};
+ghost use Rattle.std.specs.Prelude.{◌≡◌, ◌≤◌, length, IfOk, MatchOption, Some, string_bytes};
+ghost use Rattle.contracts.specs.Paths.{Longest};
+ghost use Rattle.contracts.specs.Rules.{OneWay};
 ghost use Rattle.contracts.specs.Tables.{table_at};
 ghost use Rattle.contracts.specs.View.{tables_in};
-ghost use Rattle.listing.specs.Listings.{contract_text, lines, Lists, ListsContract, message_line, message_text, move_line, move_text, name_text, payload_text, role_text, sign_text, state_text, way_text};
+ghost use Rattle.syntax.specs.declared.tree.Mark.TheVariants.{Out, In};
+ghost use Rattle.listing.specs.Listings.{contract_text, Lists, message_line, message_text, move_line, move_text, payload_text, role_text, sign_text, state_lines, state_text, table_of, way_text};
 
-use crate::refused::show;
+use crate::parts::{AllParts, Parts};
+use crate::shown::ShownName;
 use contracts::declaration::{Message, Payload};
 use contracts::set::ContractSet;
 use std::alloc::{AllocError, Global};
+use std::fmt;
 use syntax::tree::{Mark, Role};
 use words::name::Name;
 
-fn way(mark: Mark) -> &'static str
-    ensures { result.now ≡ way_text mark }
-{
-    match mark {
-        Mark::Out => "out",
-        Mark::In => "in",
+// The mark of a message.
+#[derive(Clone, Copy)]
+struct Way(Mark);
+
+impl fmt::Display for Way {
+    ghost output = { λ way. Some (way_text way.0) };
+
+    fn fmt<W: fmt::Write>(&self, f: &mut fmt::Formatter<W>) -> fmt::Result {
+        f.write_str(match self.0 {
+            Mark::Out => "out",
+            Mark::In => "in",
+        })
     }
 }
 
-fn sign(mark: Mark) -> &'static str
-    ensures { result.now ≡ sign_text mark }
-{
-    match mark {
-        Mark::Out => "!",
-        Mark::In => "?",
+// The mark of a move.
+#[derive(Clone, Copy)]
+struct Sign(Mark);
+
+impl fmt::Display for Sign {
+    ghost output = { λ sign. Some (sign_text sign.0) };
+
+    fn fmt<W: fmt::Write>(&self, f: &mut fmt::Formatter<W>) -> fmt::Result {
+        f.write_str(match self.0 {
+            Mark::Out => "!",
+            Mark::In => "?",
+        })
     }
 }
 
-fn end(role: Role) -> &'static str
-    ensures { result.now ≡ role_text role }
-{
-    match role {
-        Role::Exporting => "exp",
-        Role::Importing => "imp",
+// Which end a message carries.
+#[derive(Clone, Copy)]
+struct End(Role);
+
+impl fmt::Display for End {
+    ghost output = { λ end. Some (role_text end.0) };
+
+    fn fmt<W: fmt::Write>(&self, f: &mut fmt::Formatter<W>) -> fmt::Result {
+        f.write_str(match self.0 {
+            Role::Exporting => "exp",
+            Role::Importing => "imp",
+        })
     }
 }
 
-/// A name as text.
-pub fn name(heap: Global, name: Name) -> Result<String, AllocError>
-    ensures { IfOk result (λ s. string_bytes s ≡ name_text name) }
-{
-    show(heap, name.as_bytes())
-}
+// What a message carries.
+#[derive(Clone, Copy)]
+struct Carried(Payload);
 
-fn payload(heap: Global, payload: Payload) -> Result<String, AllocError>
-    ensures { IfOk result (λ s. string_bytes s ≡ payload_text payload) }
-{
-    match payload {
-        Payload::Nothing => String::from_str(heap, ""),
-        Payload::Block => String::from_str(heap, " block"),
-        Payload::End {
-            role,
-            contract,
-            state,
-        } => {
-            let end = end(role);
-            format!(in heap; " {end} {contract} {state}")
+impl fmt::Display for Carried {
+    ghost output = { λ carried. Some (payload_text carried.0) };
+
+    fn fmt<W: fmt::Write>(&self, f: &mut fmt::Formatter<W>) -> fmt::Result {
+        match self.0 {
+            Payload::Nothing => Ok(()),
+            Payload::Block => f.write_str(" block"),
+            Payload::End {
+                role,
+                contract,
+                state,
+            } => {
+                let end = End(role);
+                write!(f, " {end} {contract} {state}")
+            }
         }
     }
 }
 
-fn message(heap: Global, message: Message) -> Result<String, AllocError>
-    ensures { IfOk result (λ s. string_bytes s ≡ message_line message) }
-{
-    let way = way(message.mark);
-    let name = name(heap, message.name)?;
-    let payload = payload(heap, message.payload)?;
-    format!(in heap; " message {way} {name}{payload}\n")
-}
+// The line of a message.
+#[derive(Clone, Copy)]
+struct MessageLine(Message);
 
-fn step(heap: Global, m: usize, mark: Mark, target: u8) -> Result<String, AllocError>
-    ensures { IfOk result (λ s. string_bytes s ≡ move_line m mark (Some target)) }
-{
-    let sign = sign(mark);
-    format!(in heap; "  move {m}{sign} {target}\n")
-}
+impl fmt::Display for MessageLine {
+    ghost output = { λ line. Some (message_line line.0) };
 
-// The line of a message of a contract; nothing where there is no such message.
-fn message_at(
-    heap: Global,
-    set: &ContractSet,
-    contract: usize,
-    m: usize,
-) -> Result<String, AllocError>
-    ensures { IfOk result (λ s. string_bytes s ≡ message_text (table_at (tables_in set.now) contract) m) }
-{
-    match set.message(contract, m) {
-        Some(found) => message(heap, found),
-        None => String::from_str(heap, ""),
+    fn fmt<W: fmt::Write>(&self, f: &mut fmt::Formatter<W>) -> fmt::Result {
+        let way = Way(self.0.mark);
+        let name = ShownName(self.0.name);
+        let carried = Carried(self.0.payload);
+        writeln!(f, " message {way} {name}{carried}")
     }
 }
 
-// The line of a state's move for a message; nothing where it has none.
-fn move_at(
-    heap: Global,
-    set: &ContractSet,
-    contract: usize,
+// A contract of a set, by its number.
+#[derive(Clone, Copy)]
+struct Contract<'a> {
+    set: &'a ContractSet,
+    number: usize,
+}
+
+// The messages of a contract.
+#[derive(Clone, Copy)]
+struct Messages<'a>(Contract<'a>);
+
+impl Parts for Messages<'_> {
+    type Part = MessageLine;
+
+    ghost part_count = { λ _. 16 };
+
+    ghost part_text = { λ messages. message_text (table_of messages.0) };
+
+    fn part_count(&self) -> usize {
+        16
+    }
+
+    fn part(&self, m: usize) -> Option<MessageLine> {
+        let Contract { set, number } = self.0;
+        Some(MessageLine(set.message(number, m)?))
+    }
+}
+
+// The line of a state's move.
+#[derive(Clone, Copy)]
+struct MoveLine {
+    message: usize,
+    mark: Mark,
+    target: u8,
+}
+
+impl fmt::Display for MoveLine {
+    ghost output = { λ line. Some (move_line line.message line.mark (Some line.target)) };
+
+    fn fmt<W: fmt::Write>(&self, f: &mut fmt::Formatter<W>) -> fmt::Result {
+        let message = self.message;
+        let sign = Sign(self.mark);
+        let target = self.target;
+        writeln!(f, "  move {message}{sign} {target}")
+    }
+}
+
+// The moves of a state, in the order of message numbers.
+#[derive(Clone, Copy)]
+struct Moves<'a> {
+    contract: Contract<'a>,
     state: usize,
-    m: usize,
-) -> Result<String, AllocError>
-    ensures { IfOk result (λ s. string_bytes s ≡ move_text (table_at (tables_in set.now) contract) state m) }
-{
-    let Some(message) = set.message(contract, m) else {
-        return String::from_str(heap, "");
-    };
-    match set.target(contract, state, m) {
-        Some(target) => step(heap, m, message.mark, target),
-        None => String::from_str(heap, ""),
+}
+
+impl Parts for Moves<'_> {
+    type Part = MoveLine;
+
+    ghost part_count = { λ _. 16 };
+
+    ghost part_text = { λ moves. move_text (table_of moves.contract) moves.state };
+
+    fn part_count(&self) -> usize {
+        16
+    }
+
+    fn part(&self, m: usize) -> Option<MoveLine> {
+        let Contract { set, number } = self.contract;
+        let mark = set.message(number, m)?.mark;
+        let target = set.target(number, self.state, m)?;
+        Some(MoveLine {
+            message: m,
+            mark,
+            target,
+        })
     }
 }
 
-// The lines of a contract's messages.
-fn messages(heap: Global, set: &ContractSet, contract: usize) -> Result<String, AllocError>
-    ensures { IfOk result (λ s. string_bytes s ≡ lines (message_text (table_at (tables_in set.now) contract)) 16) }
-{
-    let mut out = String::new(heap);
-    for m in 0..16 {
-        let line = message_at(heap, set, contract, m)?;
-        out.push_str(line.as_str())?;
-    }
-    Ok(out)
+// A state with its moves.
+#[derive(Clone, Copy)]
+struct StateLines<'a> {
+    name: Name,
+    moves: Moves<'a>,
 }
 
-// The lines of a state's moves, in the order of message numbers.
-fn moves(
-    heap: Global,
-    set: &ContractSet,
-    contract: usize,
-    state: usize,
-) -> Result<String, AllocError>
-    ensures { IfOk result (λ s. string_bytes s ≡ lines (move_text (table_at (tables_in set.now) contract) state) 16) }
-{
-    let mut out = String::new(heap);
-    for m in 0..16 {
-        let line = move_at(heap, set, contract, state, m)?;
-        out.push_str(line.as_str())?;
-    }
-    Ok(out)
-}
+impl fmt::Display for StateLines<'_> {
+    ghost output = { λ s. Some (state_lines s.name (move_text (table_of s.moves.contract) s.moves.state)) };
 
-// A state with its moves; nothing where there is no such state.
-fn state_at(
-    heap: Global,
-    set: &ContractSet,
-    contract: usize,
-    s: usize,
-) -> Result<String, AllocError>
-    ensures { IfOk result (λ x. string_bytes x ≡ state_text (table_at (tables_in set.now) contract) s) }
-{
-    let Some(found) = set.state_name(contract, s) else {
-        return String::from_str(heap, "");
-    };
-    let name = name(heap, found)?;
-    let moves = moves(heap, set, contract, s)?;
-    format!(in heap; " state {name}\n{moves}")
+    fn fmt<W: fmt::Write>(&self, f: &mut fmt::Formatter<W>) -> fmt::Result {
+        let name = ShownName(self.name);
+        let moves = AllParts(self.moves);
+        write!(f, " state {name}\n{moves}")
+    }
 }
 
 // The states of a contract with their moves.
-fn states(heap: Global, set: &ContractSet, contract: usize) -> Result<String, AllocError>
-    ensures { IfOk result (λ s. string_bytes s ≡ lines (state_text (table_at (tables_in set.now) contract)) 16) }
-{
-    let mut out = String::new(heap);
-    for s in 0..16 {
-        let part = state_at(heap, set, contract, s)?;
-        out.push_str(part.as_str())?;
+#[derive(Clone, Copy)]
+struct States<'a>(Contract<'a>);
+
+impl<'a> Parts for States<'a> {
+    type Part = StateLines<'a>;
+
+    ghost part_count = { λ _. 16 };
+
+    ghost part_text = { λ states. state_text (table_of states.0) };
+
+    fn part_count(&self) -> usize {
+        16
     }
-    Ok(out)
+
+    fn part(&self, s: usize) -> Option<StateLines<'a>> {
+        let contract = self.0;
+        let name = contract.set.state_name(contract.number, s)?;
+        Some(StateLines {
+            name,
+            moves: Moves { contract, state: s },
+        })
+    }
 }
 
 // A contract by its name, its bounds, its messages and its states.
-fn contract(
-    heap: Global,
-    set: &ContractSet,
-    contract: usize,
+#[derive(Clone, Copy)]
+struct ContractLines<'a> {
+    contract: Contract<'a>,
+    name: Name,
     out_bound: u8,
     in_bound: u8,
-    own: Name,
-) -> Result<String, AllocError>
-    ensures { IfOk result (λ s. own ≡ (table_at (tables_in set.now) contract).declaration.name → string_bytes s ≡ contract_text (table_at (tables_in set.now) contract) out_bound in_bound) }
-{
-    let name = name(heap, own)?;
-    let messages = messages(heap, set, contract)?;
-    let states = states(heap, set, contract)?;
-    format!(in heap; "contract {name} out {out_bound} in {in_bound}\n{messages}{states}")
+    ghost named: { name ≡ (table_of contract).declaration.name },
+    ghost longest_out: { Longest (OneWay (table_of contract) Out) out_bound },
+    ghost longest_in: { Longest (OneWay (table_of contract) In) in_bound },
 }
 
-// A contract of a set.
-fn contract_at(heap: Global, set: &ContractSet, k: usize) -> Result<String, AllocError>
-    requires { k < length (tables_in set.now) }
-    ensures { IfOk result (λ s. ListsContract (tables_in set.now) k (string_bytes s)) }
+impl fmt::Display for ContractLines<'_> {
+    ghost output = { λ c. Some (contract_text (table_of c.contract) c.out_bound c.in_bound) };
+
+    fn fmt<W: fmt::Write>(&self, f: &mut fmt::Formatter<W>) -> fmt::Result {
+        let name = ShownName(self.name);
+        let out_bound = self.out_bound;
+        let in_bound = self.in_bound;
+        let messages = AllParts(Messages(self.contract));
+        let states = AllParts(States(self.contract));
+        write!(
+            f,
+            "contract {name} out {out_bound} in {in_bound}\n{messages}{states}"
+        )
+    }
+}
+
+// What is listed of a contract; none where there is no such contract.
+fn contract_lines<'a>(set: &'a ContractSet, number: usize) -> Option<ContractLines<'a>>
+    ensures { MatchOption result (length (tables_in set.now) ≤ number) (λ c. table_of c.contract ≡ table_at (tables_in set.now) number) }
 {
-    let Some(own) = set.contract_name(k) else {
-        return String::from_str(heap, "");
-    };
-    let Some(out_bound) = set.out_bound(k) else {
-        return String::from_str(heap, "");
-    };
-    let Some(in_bound) = set.in_bound(k) else {
-        return String::from_str(heap, "");
-    };
-    contract(heap, set, k, out_bound, in_bound, own)
+    Some(ContractLines {
+        contract: Contract { set, number },
+        name: set.contract_name(number)?,
+        out_bound: set.out_bound(number)?,
+        in_bound: set.in_bound(number)?,
+    })
 }
 
 /// The listing of a set: for each contract its bounds, messages, states and moves, with numbers in place of the names that
@@ -210,9 +264,10 @@ pub fn list_contracts(heap: Global, set: &ContractSet) -> Result<String, AllocEr
     ensures { IfOk result (λ s. Lists (tables_in set.now) (length (tables_in set.now)) (string_bytes s)) }
 {
     let mut out = String::new(heap);
-    for k in 0..set.contract_count() {
-        let part = contract_at(heap, set, k)?;
-        out.push_str(part.as_str())?;
+    for number in 0..set.contract_count() {
+        if let Some(contract) = contract_lines(set, number) {
+            out.write(contract)?;
+        }
     }
     Ok(out)
 }

@@ -2,4 +2,6 @@
 #![tactic(auto)]
 
 pub mod accepted;
+pub mod parts;
 pub mod refused;
+pub mod shown;

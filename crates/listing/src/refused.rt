@@ -1,25 +1,45 @@
 // A refusal as people read it: the fault's numbers, file, line and column, the line with the word underlined, and the
 // refusal in plain words.
-ghost use Rattle.std.specs.Prelude.{◌≡◌, ◌<◌, ◌≤◌, max, ◌++◌, map, length, take, drop, replicate, IfOk, string_bytes, count_by};
+ghost use Rattle.std.specs.Prelude.{◌≡◌, ◌≤◌, max, ◌++◌, map, length, take, drop, replicate, IfOk, Some, string_bytes, count_by};
 ghost use Rattle.std.specs.List.{prefix_len};
-ghost use Rattle.listing.specs.Lines.{fault_text, in_line, is_line_feed, shown_byte, page_of, position_of, Explains, LineStart};
+ghost use Rattle.listing.specs.Lines.{fault_text, in_line, is_line_feed, shown_byte, page_of, position_of, underline, Explains, LineStart};
 
+use crate::shown::ShownBytes;
 use std::alloc::{AllocError, Global};
+use std::fmt;
 use words::fault::Report;
+
+// A fault on one line.
+#[derive(Clone, Copy)]
+struct FaultLine(Report);
+
+impl fmt::Display for FaultLine {
+    ghost output = { λ fault. Some (fault_text fault.0) };
+
+    fn fmt<W: fmt::Write>(&self, f: &mut fmt::Formatter<W>) -> fmt::Result {
+        let Report {
+            number,
+            layer,
+            text,
+            place,
+            len,
+        } = self.0;
+        write!(
+            f,
+            "fault {number} layer {layer} text {text} place {place} length {len}"
+        )
+    }
+}
 
 /// The fault on one line, as programs read it.
 pub fn fault_line(heap: Global, report: Report) -> Result<String, AllocError>
     ensures { IfOk result (λ s. string_bytes s ≡ fault_text report) }
 {
-    let number = report.number;
-    let layer = report.layer;
-    let text = report.text;
-    let place = report.place;
-    let len = report.len;
-    format!(in heap; "fault {number} layer {layer} text {text} place {place} length {len}")
+    FaultLine(report).to_string(heap)
 }
 
 // A refusal in plain words.
+// By its number, not by the type of the fault: the faults of scripts belong to crates that this one does not know.
 fn meaning(report: Report) -> &'static str {
     match report.number {
         2 => "the text has more than 4096 bytes",
@@ -49,44 +69,17 @@ fn meaning(report: Report) -> &'static str {
 fn line_start(before: &[u8]) -> usize
     ensures { LineStart before.now result }
 {
-    let mut start = 0;
-    for (i, b) in before.iter().enumerate() {
-        if *b == b'\n' {
-            start = i + 1;
-        }
-    }
-    start
+    before
+        .iter()
+        .rposition(|b| *b == b'\n')
+        .map_or(0, |i| i + 1)
 }
 
 // How many lines end in what stands before a place.
 fn line_feeds(before: &[u8]) -> usize
     ensures { result ≡ count_by is_line_feed before.now }
 {
-    let mut count = 0;
-    for b in before {
-        if *b == b'\n' {
-            count += 1;
-        }
-    }
-    count
-}
-
-// What stands before a place of a text.
-fn front(text: &[u8], place: usize) -> &[u8]
-    ensures { result.now ≡ take place text.now }
-{
-    if place < text.len() {
-        &text[0..place]
-    } else {
-        text
-    }
-}
-
-// A byte as one printed character: itself, or a space where it cannot be printed.
-fn shown(b: u8) -> u8
-    ensures { result ≡ shown_byte b }
-{
-    if b >= 32 && b < 127 { b } else { b' ' }
+    before.iter().filter(|b| **b == b'\n').count()
 }
 
 // How many bytes the line has that a text begins with.
@@ -94,77 +87,70 @@ fn line_len(text: &[u8]) -> usize
     ensures within { result ≤ length text.now }
     ensures value { result ≡ prefix_len in_line text.now }
 {
-    for (i, b) in text.iter().enumerate() {
-        if *b == b'\n' {
-            return i;
-        }
-    }
-    text.len()
+    text.iter().take_while(|b| **b != b'\n').count()
+}
+
+// What stands before a place of a text.
+fn front(text: &[u8], place: usize) -> &[u8]
+    ensures { result.now ≡ take place text.now }
+{
+    text.get(..place).unwrap_or(text)
 }
 
 // The line of a text that begins at `start`.
 fn line_at(text: &[u8], start: usize) -> &[u8]
     ensures { result.now ≡ take (prefix_len in_line (drop start text.now)) (drop start text.now) }
 {
-    if start >= text.len() {
-        return &[];
-    }
-    let rest = &text[start..];
-    &rest[0..line_len(rest)]
-}
-
-// Bytes, each as one printed character.
-pub(crate) fn show(heap: Global, bytes: &[u8]) -> Result<String, AllocError>
-    ensures { IfOk result (λ s. string_bytes s ≡ map shown_byte bytes.now) }
-{
-    let mut out = String::new(heap);
-    for b in bytes {
-        out.push(char::from(shown(*b)))?;
-    }
-    Ok(out)
-}
-
-// A character that stands `count` times.
-fn times(heap: Global, c: u8, count: usize) -> Result<String, AllocError>
-    requires { c < 128 }
-    ensures { IfOk result (λ s. string_bytes s ≡ replicate count c) }
-{
-    let mut out = String::new(heap);
-    for _i in 0..count {
-        out.push(char::from(c))?;
-    }
-    Ok(out)
-}
-
-// The lines of a refusal: fault, place, row and mark, and words.
-fn page(
-    heap: Global,
-    fault: &str,
-    place: &str,
-    row: &str,
-    mark: &str,
-    number: u8,
-    words: &str,
-) -> Result<String, AllocError>
-    ensures { IfOk result (λ s. string_bytes s ≡ page_of fault.now place.now row.now mark.now number words.now) }
-{
-    format!(in heap; "{fault}\n{place}\n{row}\n{mark}\nrefused {number}: {words}\n")
-}
-
-// A place for people: the file, the line and the column.
-fn position(heap: Global, file: &str, line: usize, column: usize) -> Result<String, AllocError>
-    ensures { IfOk result (λ s. string_bytes s ≡ position_of file.now line column) }
-{
-    format!(in heap; "{file}:{line}:{column}")
+    let rest = text.get(start..).unwrap_or(&[]);
+    &rest[..line_len(rest)]
 }
 
 // Spaces, and then as many marks as the word at fault has bytes, or one.
-fn underline(heap: Global, indent: usize, len: usize) -> Result<String, AllocError>
-    ensures { IfOk result (λ s. string_bytes s ≡ replicate indent 32 ++ replicate (max len 1) 94) }
-{
-    let spaces = times(heap, b' ', indent)?;
-    let marks = times(heap, b'^', len.max(1))?;
-    format!(in heap; "{spaces}{marks}")
+#[derive(Clone, Copy)]
+struct Underline {
+    indent: usize,
+    len: usize,
+}
+
+impl fmt::Display for Underline {
+    ghost output = { λ mark. Some (underline mark.indent mark.len) };
+
+    fn fmt<W: fmt::Write>(&self, f: &mut fmt::Formatter<W>) -> fmt::Result {
+        f.write_repeated(" ", self.indent)?;
+        f.write_repeated("^", self.len.max(1))
+    }
+}
+
+// A refusal for people: the fault, its file, line and column, the line with the word underlined, and what is wrong.
+#[derive(Clone, Copy)]
+struct Page<'f, 't> {
+    report: Report,
+    file: &'f str,
+    line: usize,
+    column: usize,
+    row: ShownBytes<'t>,
+    mark: Underline,
+    words: &'static str,
+}
+
+impl fmt::Display for Page<'_, '_> {
+    ghost output = { λ p. Some (page_of (fault_text p.report) (position_of p.file.now p.line p.column) (map shown_byte p.row.0.now) (underline p.mark.indent p.mark.len) p.report.number p.words.now) };
+
+    fn fmt<W: fmt::Write>(&self, f: &mut fmt::Formatter<W>) -> fmt::Result {
+        let Page {
+            report,
+            file,
+            line,
+            column,
+            row,
+            mark,
+            words,
+        } = *self;
+        let fault = FaultLine(report);
+        let number = report.number;
+        writeln!(f, "{fault}\n{file}:{line}:{column}\n{row}\n{mark}")?;
+        writeln!(f, "refused {number}: {words}")
+    }
 }
 
 /// The refusal for people: the fault line, then file, line and column, the line with the word underlined, and what is
@@ -175,21 +161,17 @@ pub fn explain(heap: Global, file: &str, text: &[u8], report: Report) -> Result<
     let before = front(text, report.place);
     let start = line_start(before);
     let indent = before.len() - start;
-    let line = line_feeds(before).saturating_add(1);
-    let column = indent.saturating_add(1);
-    let fault = fault_line(heap, report)?;
-    let place = position(heap, file, line, column)?;
-    let row = show(heap, line_at(text, start))?;
-    let mark = underline(heap, indent, report.len)?;
-    let number = report.number;
-    let words = meaning(report);
-    page(
-        heap,
-        fault.as_str(),
-        place.as_str(),
-        row.as_str(),
-        mark.as_str(),
-        number,
-        words,
-    )
+    let page = Page {
+        report,
+        file,
+        line: line_feeds(before).saturating_add(1),
+        column: indent.saturating_add(1),
+        row: ShownBytes(line_at(text, start)),
+        mark: Underline {
+            indent,
+            len: report.len,
+        },
+        words: meaning(report),
+    };
+    page.to_string(heap)
 }

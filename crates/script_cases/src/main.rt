@@ -6,75 +6,42 @@
 use contracts::check::check;
 use listing::accepted::list_contracts;
 use listing::refused::fault_line;
+use listing::shown::OneLine;
 use script_listing::accepted::list_scripts;
 use scripts::check::check as check_scripts;
+use scripts::set::ScriptSet;
 use std::alloc::{AllocError, Global};
+use words::fault::Report;
 
-// What a hexadecimal digit stands for.
-fn digit(b: u8) -> Option<u8> {
-    match b {
-        b'0'..=b'9' => Some(b - b'0'),
-        b'a'..=b'f' => Some(b - b'a' + 10),
-        _ => None,
-    }
-}
-
-// The bytes that a line of pairs of hexadecimal digits stands for.
-fn decode(heap: Global, line: &[u8]) -> Result<Vec<u8>, AllocError> {
-    let mut bytes = Vec::new(heap);
-    let mut high = None;
-    for b in line {
-        if let Some(d) = digit(*b) {
-            match high {
-                None => high = Some(d),
-                Some(h) => {
-                    bytes.push((h & 15) * 16 + (d & 15))?;
-                    high = None;
-                }
-            }
-        }
-    }
-    Ok(bytes)
-}
-
-// A listing on one line.
-fn joined(heap: Global, listing: &str) -> Result<String, AllocError> {
-    let mut line = String::new(heap);
-    for c in listing.chars() {
-        if c == '\n' {
-            line.push('|')?;
-        } else {
-            line.push(c)?;
-        }
-    }
-    Ok(line)
+// The set of scripts that both texts spell, or the fault that is first.
+fn check_both(text: &[u8], script: &[u8]) -> Result<ScriptSet, Report> {
+    let contracts = check(text).map_err(|fault| fault.report())?;
+    check_scripts(script, contracts).map_err(|refusal| refusal.fault.report())
 }
 
 // The answer to a contract text and a script text on one line.
-fn answer_both(heap: Global, text: &[u8], script: &[u8]) -> Result<String, AllocError> {
-    let contracts = match check(text) {
-        Ok(set) => set,
-        Err(fault) => return fault_line(heap, fault.report()),
-    };
-    match check_scripts(script, contracts) {
+fn answer(heap: Global, text: &[u8], script: &[u8]) -> Result<String, AllocError> {
+    match check_both(text, script) {
         Ok(set) => {
-            let mut listing = list_contracts(heap, &contracts)?;
-            let more = list_scripts(heap, &set)?;
-            listing.push_str(more.as_str())?;
-            joined(heap, listing.as_str())
+            let contracts = list_contracts(heap, set.contracts())?;
+            let scripts = list_scripts(heap, &set)?;
+            let contracts = OneLine(contracts.as_str());
+            let scripts = OneLine(scripts.as_str());
+            format!(in heap; "{contracts}{scripts}")
         }
-        Err(refusal) => fault_line(heap, refusal.fault.report()),
+        Err(report) => fault_line(heap, report),
     }
 }
 
 // The answer to a line of the input.
-fn answer_line(heap: Global, line: &str) -> Result<String, AllocError> {
-    let mut texts = line.split(' ');
-    let text = decode(heap, texts.next().unwrap_or("").as_bytes())?;
-    let script = decode(heap, texts.next().unwrap_or("").as_bytes())?;
-    answer_both(heap, text.as_slice(), script.as_slice())
+fn answer_line(heap: Global, line: &str) -> anyhow::Result<String> {
+    let (text, script) = line.split_once(' ').unwrap_or((line, ""));
+    let text = hex::decode(heap, text)?;
+    let script = hex::decode(heap, script)?;
+    Ok(answer(heap, text.as_slice(), script.as_slice())?)
 }
 
+// As in `cases`: one function for both would take the runtime and a closure, and be no shorter.
 fn main(rt: HostRuntime) -> anyhow::Result<()> {
     let heap = rt.alloc();
     for line in rt.lines(heap) {

@@ -3,5 +3,5 @@ use Rattle.contracts.specs.View.{tables_in}
 use Rattle.listing.specs.Listings.{Lists}
 use Rattle.listing.proofs.accepted.list_contracts.Given as goal
 
-abbrev pub invariant-loop-k : goal.invariant-loop-k
-invariant-loop-k l = Lists (tables_in l.set) l.k (string_bytes l.out)
+abbrev pub invariant-loop-number : goal.invariant-loop-number
+invariant-loop-number l = Lists (tables_in l.set) l.number (string_bytes l.out)
