@@ -1,16 +1,18 @@
 -- What begins at a byte has at least one byte and no more than are left.
-use Rattle.std.proofs.Common.{◌≡◌, ℕ, ◌+◌, ◌<◌, ◌≤◌, Bool, true, eqb, ltb, List, [], ◌∷◌, length, get_or, take, drop, Some, None, Option, sym, refl, ap, ◌∙◌, inl, inr, arith}
+use Rattle.std.proofs.Common.{◌≡◌, ℕ, ◌+◌, ◌<◌, ◌≤◌, Bool, true, eqb, ltb, List, [], ◌∷◌, length, get_or, take, drop, Some, None, Option, sym, refl, ap, ◌∙◌, inl, inr, find, arith}
+use Rattle.std.specs.List.{prefix_len}
 use Rattle.std.specs.Str.{bytes_eq}
 use Rattle.std.proofs.lemmas.Slice.Eq.{bytes_eq-Decides}
+use Rattle.std.proofs.lemmas.List.Sums.{prefix_len-le-length}
 use Rattle.std.proofs.lemmas.List.{length-take-le, get_or-drop, length-drop, get_or_past}
 use Rattle.std.proofs.lemmas.Bool.{cond_both, ltb-false, eqb-true, cases_lt, or_left}
 use Rattle.words.specs.declared.name.Ident.{Ident}
 use Rattle.words.specs.declared.word.Keyword.{Keyword}
 use Rattle.words.specs.declared.word.Mark.TheVariants as m
-use Rattle.words.specs.Runs.{letter, digit, in_name, run}
+use Rattle.words.specs.Runs.{letter, digit, in_name}
 use Rattle.words.specs.Signs.{Sign, Numeral, spelling, size_of, name_of}
 use Rattle.words.specs.Signs as s
-use Rattle.words.specs.Stream.{Lexeme, one, none, first_spelling, keywords, reserved, key_or_name, name_lexeme, number_lexeme, minus_lexeme, mark_lexeme, lexeme}
+use Rattle.words.specs.Stream.{Lexeme, one, none, keywords, reserved, key_or_name, name_lexeme, number_lexeme, minus_lexeme, mark_lexeme, lexeme}
 
 -- a name says the place p and has at most 16 bytes
 abbrev pub NameAt : ℕ → Sign → Type 0
@@ -25,21 +27,15 @@ abbrev pub Fitting : ℕ → ℕ → Lexeme → Type 0
 Fitting n p (one x) = (1 ≤ size_of x) × (size_of x ≤ n) × NameAt p x × NumberAt p x
 Fitting n p (none l) = Unit {0}
 
-module _ (P : ℕ → Bool) where
-  pub run-within : (bs : List ℕ) → run P bs ≤ length bs
-  run-within [] = omega arith
-  run-within (b ∷ bs) =
-      cond_both (P b) (run P bs + 1) 0 (λ n. n ≤ length (b ∷ bs)) (λ _. omega (arith, run-within bs)) (λ _. omega arith)
-
-  pub run-first : (bs : List ℕ) → 1 ≤ length bs → P (get_or bs 0 0) ≡ true → 1 ≤ run P bs
-  run-first [] h e = omega arith
-  run-first (b ∷ bs) h e = rw e (omega arith)
+prefix_len-first : (P : ℕ → Bool) (bs : List ℕ) → 1 ≤ length bs → P (get_or bs 0 0) ≡ true → 1 ≤ prefix_len P bs
+prefix_len-first P [] h e = omega arith
+prefix_len-first P (b ∷ bs) h e = rw e (omega arith)
 
 -- a reserved word or a name has the bytes that it was made from
-key-size : (p : ℕ) (bs : List ℕ) (ks : List Keyword) → size_of (key_or_name (first_spelling ks bs) bs p) ≡ length bs
+key-size : (p : ℕ) (bs : List ℕ) (ks : List Keyword) → size_of (key_or_name (find (λ x. bytes_eq bs (spelling x)) ks) bs p) ≡ length bs
 key-size p bs [] = refl
 key-size p bs (x ∷ xs) =
-    cond_both (bytes_eq bs (spelling x)) (Some x) (first_spelling xs bs) (λ o. size_of (key_or_name o bs p) ≡ length bs)
+    cond_both (bytes_eq bs (spelling x)) (Some x) (find (λ y. bytes_eq bs (spelling y)) xs) (λ o. size_of (key_or_name o bs p) ≡ length bs)
     (λ e. ap length (sym ((bytes_eq-Decides bs (spelling x)).0 e))) (λ _. key-size p bs xs)
 
 key-name : (p : ℕ) (bs : List ℕ) → length bs ≤ 16 → (o : Option Keyword) → NameAt p (key_or_name o bs p)
@@ -102,14 +98,14 @@ minus_fits bs p h =
     let d = digit-within bs 1 e in
     let g : digit (get_or (drop 1 bs) 0 0) ≡ true = ap digit (get_or-drop 1 bs 0 0) ∙ e in
     let l = length-drop 1 bs in
-    number_fits n p bs 1 (run digit (drop 1 bs)) refl (run-first digit (drop 1 bs) (omega arith) g) (omega (arith, run-within digit (drop 1 bs))))
+    number_fits n p bs 1 (prefix_len digit (drop 1 bs)) refl (prefix_len-first digit (drop 1 bs) (omega arith) g) (omega (arith, prefix_len-le-length digit (drop 1 bs))))
     (λ _. tt))
 
 pub lexeme_fits : (bs : List ℕ) (p : ℕ) → 1 ≤ length bs → Fitting (length bs) p (lexeme bs p)
 lexeme_fits bs p h =
     let n = length bs in
     cond_both (letter (get_or bs 0 0)) _ _ (Fitting n p)
-    (λ e. name_fits n p bs (run in_name bs) refl (run-first in_name bs h (or_left (letter (get_or bs 0 0)) _ e)) (run-within in_name bs))
+    (λ e. name_fits n p bs (prefix_len in_name bs) refl (prefix_len-first in_name bs h (or_left (letter (get_or bs 0 0)) _ e)) (prefix_len-le-length in_name bs))
     (λ _. cond_both (digit (get_or bs 0 0)) _ _ (Fitting n p)
-    (λ e. number_fits n p bs 0 (run digit bs) refl (run-first digit bs h e) (omega (arith, run-within digit bs)))
+    (λ e. number_fits n p bs 0 (prefix_len digit bs) refl (prefix_len-first digit bs h e) (omega (arith, prefix_len-le-length digit bs)))
     (λ _. cond_both (eqb (get_or bs 0 0) 45) _ _ (Fitting n p) (λ _. minus_fits bs p h) (λ _. mark_fits n p h (get_or bs 0 0))))

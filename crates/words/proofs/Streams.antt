@@ -2,7 +2,8 @@
 use Rattle.std.proofs.Common.{◌≡◌, ℕ, zero, suc, ◌+◌, ◌-◌, ◌<◌, ◌≤◌, true, false, cond, ltb, List, [], ◌∷◌, length, drop, Ok, Err, sym, ap, ◌∙◌, subst, add-one, arith}
 use Rattle.std.proofs.lemmas.List.{drop_all, drop-drop, length-drop}
 use Rattle.std.proofs.lemmas.Bool.{cond_both, cond-true, lt-ltb, ltb-true, ltb-false}
-use Rattle.words.specs.Runs.{blank, run}
+use Rattle.std.specs.List.{prefix_len}
+use Rattle.words.specs.Runs.{blank}
 use Rattle.words.specs.Signs.{Word, size_of}
 use Rattle.words.specs.Stream.{Lexeme, one, none, lexeme, Stream, stop, bad, word, fetched, stream, bytes_in, Proper, WellPlaced}
 use Rattle.words.specs.Reading.{placed}
@@ -60,14 +61,18 @@ abbrev pub first : List ℕ → ℕ → Stream
 first [] p = stop p
 first (b ∷ bs) p = fetched (lexeme (b ∷ bs) p) p (λ n. stream bs (n - 1) (p + 1))
 
+-- one more than n
+one_more : (n : ℕ) → 1 + n ≡ suc n
+one_more n = omega arith
+
 -- past the blanks
-pub stream_blanks : (bs : List ℕ) (p : ℕ) → stream bs 0 p ≡ first (drop (run blank bs) bs) (p + run blank bs)
+pub stream_blanks : (bs : List ℕ) (p : ℕ) → stream bs 0 p ≡ first (drop (prefix_len blank bs) bs) (p + prefix_len blank bs)
 stream_blanks [] p = ap stop (omega arith)
 stream_blanks (b ∷ bs) p =
     elim (blank b)
-    as (λ t. cond t (stream bs 0 (p + 1)) (first (b ∷ bs) p) ≡ first (drop (cond t (run blank bs + 1) 0) (b ∷ bs)) (p + cond t (run blank bs + 1) 0)) [
+    as (λ t. cond t (stream bs 0 (p + 1)) (first (b ∷ bs) p) ≡ first (drop (cond t (1 + prefix_len blank bs) 0) (b ∷ bs)) (p + cond t (1 + prefix_len blank bs) 0)) [
       | true ↦
-          rw (add-one (run blank bs)) (stream_blanks bs (p + 1) ∙ ap (λ q. first (drop (run blank bs) bs) q) (omega arith))
+          rw (one_more (prefix_len blank bs)) (stream_blanks bs (p + 1) ∙ ap (λ q. first (drop (prefix_len blank bs) bs) q) (omega arith))
       | false ↦ ap (λ q. first (b ∷ bs) q) (omega arith)
     ]
 
@@ -103,10 +108,10 @@ first-refused [] p n h e = absurd (omega arith)
 first-refused (b ∷ bs) p n h e = refused p (λ m. stream bs (m - 1) (p + 1)) (lexeme (b ∷ bs) p) n e
 
 -- a reader that has come to `at`, with the place behind the blanks there
-module _ (text : List ℕ) (at place : ℕ) (e : place ≡ at + run blank (drop at text)) where
+module _ (text : List ℕ) (at place : ℕ) (e : place ≡ at + prefix_len blank (drop at text)) where
   at_place : stream (drop at text) 0 at ≡ first (drop place text) place
   at_place =
-      let n = run blank (drop at text) in
+      let n = prefix_len blank (drop at text) in
       stream_blanks (drop at text) at ∙ (ap (λ bs. first bs (at + n)) (drop-drop n at text) ∙ ap (λ q. first (drop q text) q) (sym e))
 
   pub read_end : length text ≤ place → stream (drop at text) 0 at ≡ stop place

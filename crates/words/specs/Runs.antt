@@ -1,7 +1,6 @@
--- Bytes, and how far a run of them goes.
+-- What a byte of a text is.
 --   blank b, letter b, digit b, in_name b      what a byte is
---   run P bs                                  how many bytes at the front of bs are P
-use Rattle.std.specs.Prelude.{ℕ, ◌+◌, Bool, cond, ◌&&◌, ◌||◌, List, [], ◌∷◌, ◌==◌, nat_le}
+use Rattle.std.specs.Prelude.{ℕ, Bool, ◌&&◌, ◌||◌, ◌==◌, nat_le}
 
 -- tab, line feed, carriage return and space separate words
 abbrev pub blank : ℕ → Bool
@@ -16,7 +15,3 @@ digit b = nat_le 48 b && nat_le b 57
 -- a byte that a name goes on with: a letter, a digit or an underscore
 abbrev pub in_name : ℕ → Bool
 in_name b = letter b || (digit b || b == 95)
-
-abbrev pub run : (ℕ → Bool) → List ℕ → ℕ
-run P [] = 0
-run P (b ∷ bs) = cond (P b) (run P bs + 1) 0

@@ -11,7 +11,8 @@
 --   bytes_in s         how many bytes the words of s have
 --   Proper s          names say their own place, and no word is empty
 --   WellPlaced s      numbers too say their own place
-use Rattle.std.specs.Prelude.{◌≡◌, ℕ, ◌+◌, ◌-◌, ◌≤◌, cond, List, [], ◌∷◌, take, drop, Some, None, Ok, Err, Option, Result, ◌==◌, nat_lt, slice_index}
+use Rattle.std.specs.Prelude.{◌≡◌, ℕ, ◌+◌, ◌-◌, ◌≤◌, cond, List, [], ◌∷◌, take, drop, Some, None, Ok, Err, Option, Result, ◌==◌, nat_lt, find, slice_index}
+use Rattle.std.specs.List.{prefix_len}
 use Rattle.std.specs.Str.{bytes_eq}
 use Rattle.words.specs.declared.name.Ident.{Ident}
 use Rattle.words.specs.declared.word.Keyword.{Keyword}
@@ -22,19 +23,15 @@ use Rattle.words.specs.declared.fault.WordFault.{WordFault}
 use Rattle.words.specs.declared.fault.WordFault.TheVariants.{NoWord}
 use Rattle.words.specs.Signs.{Sign, Word, Numeral, name_of, spelling, size_of}
 use Rattle.words.specs.Signs as s
-use Rattle.words.specs.Runs.{blank, letter, digit, in_name, run}
+use Rattle.words.specs.Runs.{blank, letter, digit, in_name}
 
 abbrev pub keywords : List Keyword
 keywords =
     k.Contract ∷ k.Out ∷ k.In ∷ k.Block ∷ k.Exp ∷ k.Imp ∷ k.State ∷ k.Process ∷ k.New ∷ k.Put ∷ k.Free ∷ k.Open ∷ k.Close ∷ k.Send
     ∷ k.Pass ∷ k.Receive ∷ k.Case ∷ k.Lost ∷ k.Jump ∷ k.End ∷ []
 
-abbrev pub first_spelling : List Keyword → List ℕ → Option Keyword
-first_spelling [] bs = None
-first_spelling (x ∷ xs) bs = cond (bytes_eq bs (spelling x)) (Some x) (first_spelling xs bs)
-
 abbrev pub reserved : List ℕ → Option Keyword
-reserved bs = first_spelling keywords bs
+reserved bs = find (λ x. bytes_eq bs (spelling x)) keywords
 
 pub data Lexeme : Type 0 where
   one : Sign → Lexeme
@@ -58,7 +55,7 @@ number_lexeme bs minus digits p =
 abbrev pub minus_lexeme : List ℕ → ℕ → Lexeme
 minus_lexeme bs p =
     cond (slice_index bs 1 == 62) (one (s.Mark m.Arrow))
-    (cond (digit (slice_index bs 1)) (number_lexeme bs 1 (run digit (drop 1 bs)) p) (none 1))
+    (cond (digit (slice_index bs 1)) (number_lexeme bs 1 (prefix_len digit (drop 1 bs)) p) (none 1))
 
 -- what begins at any other byte than a letter, a digit or a minus
 abbrev pub mark_lexeme : ℕ → Lexeme
@@ -69,8 +66,8 @@ mark_lexeme b =
 
 abbrev pub lexeme : List ℕ → ℕ → Lexeme
 lexeme bs p =
-    cond (letter (slice_index bs 0)) (name_lexeme bs (run in_name bs) p)
-    (cond (digit (slice_index bs 0)) (number_lexeme bs 0 (run digit bs) p)
+    cond (letter (slice_index bs 0)) (name_lexeme bs (prefix_len in_name bs) p)
+    (cond (digit (slice_index bs 0)) (number_lexeme bs 0 (prefix_len digit bs) p)
     (cond (slice_index bs 0 == 45) (minus_lexeme bs p) (mark_lexeme (slice_index bs 0))))
 
 pub data Stream : Type 0 where

@@ -1,15 +1,7 @@
-// What a byte of a text is, and how far bytes of one class run.
+// What a byte of a text is, and how many of a kind a text begins with.
 ghost use Rattle.std.specs.Prelude.{◌≡◌, ◌≤◌, length};
-ghost use Rattle.words.specs.Classes.{member};
-ghost use Rattle.words.specs.Runs.{blank, letter, digit, run as run_of};
-
-/// The classes of bytes that runs are made of.
-#[derive(Clone, Copy)]
-pub enum Class {
-    Blank,
-    Digit,
-    InName,
-}
+ghost use Rattle.std.specs.List.{prefix_len};
+ghost use Rattle.words.specs.Runs.{blank, letter, digit, in_name};
 
 /// Whether a byte separates words: a tab, a line feed, a carriage return or a space.
 fn is_blank(b: u8) -> bool
@@ -22,36 +14,43 @@ fn is_blank(b: u8) -> bool
 pub(crate) fn is_letter(b: u8) -> bool
     ensures { result ≡ letter b }
 {
-    b >= b'A' && b <= b'Z' || b >= b'a' && b <= b'z'
+    b.is_ascii_alphabetic()
 }
 
 /// Whether a byte is a digit.
 pub(crate) fn is_digit(b: u8) -> bool
     ensures { result ≡ digit b }
 {
-    b >= b'0' && b <= b'9'
+    b.is_ascii_digit()
 }
 
-/// Whether a byte is of a class.
-fn is_of(class: Class, b: u8) -> bool
-    ensures { result ≡ member class b }
+/// Whether a name goes on with a byte: a letter, a digit or an underscore.
+fn is_in_name(b: u8) -> bool
+    ensures { result ≡ in_name b }
 {
-    match class {
-        Class::Blank => is_blank(b),
-        Class::Digit => is_digit(b),
-        Class::InName => is_letter(b) || is_digit(b) || b == b'_',
-    }
+    is_letter(b) || is_digit(b) || b == b'_'
 }
 
-/// How many bytes at the front are of a class.
-pub(crate) fn run(class: Class, bytes: &[u8]) -> usize
+/// How many blanks a text begins with.
+pub(crate) fn blanks(bytes: &[u8]) -> usize
     ensures within { result ≤ length bytes.now }
-    ensures value { result ≡ run_of (member class) bytes.now }
+    ensures value { result ≡ prefix_len blank bytes.now }
 {
-    for (i, b) in bytes.iter().enumerate() {
-        if !is_of(class, *b) {
-            return i;
-        }
-    }
-    bytes.len()
+    bytes.iter().take_while(|b| is_blank(**b)).count()
+}
+
+/// How many digits a text begins with.
+pub(crate) fn digits(bytes: &[u8]) -> usize
+    ensures within { result ≤ length bytes.now }
+    ensures value { result ≡ prefix_len digit bytes.now }
+{
+    bytes.iter().take_while(|b| is_digit(**b)).count()
+}
+
+/// How many bytes of a name a text begins with.
+pub(crate) fn name_bytes(bytes: &[u8]) -> usize
+    ensures within { result ≤ length bytes.now }
+    ensures value { result ≡ prefix_len in_name bytes.now }
+{
+    bytes.iter().take_while(|b| is_in_name(**b)).count()
 }

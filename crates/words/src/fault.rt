@@ -1,6 +1,8 @@
 // Where a text is at fault, and the faults of its words.
-ghost use Rattle.std.specs.Prelude.{◌≡◌};
-ghost use Rattle.words.specs.Faults.{text_number, report_at, word_report};
+ghost use Rattle.std.specs.Prelude.{◌≡◌, Some};
+ghost use Rattle.words.specs.Faults.{text_number, report_at, report_text, word_report};
+
+use std::fmt;
 
 /// The two texts that a station is set up from.
 #[derive(Clone, Copy, PartialEq, Eq)]
@@ -17,12 +19,12 @@ pub struct Span {
     pub len: usize,
 }
 
-impl Source {
-    /// The number that stands for a text: 0 for the contracts, 1 for the scripts.
-    pub fn number(self) -> u8
-        ensures { result ≡ text_number self }
-    {
-        match self {
+/// The number that stands for a text: 0 for the contracts, 1 for the scripts.
+impl From<Source> for u8 {
+    ghost from_gives = { λ s r. r ≡ text_number s };
+
+    fn from(source: Source) -> u8 {
+        match source {
             Source::Contracts => 0,
             Source::Scripts => 1,
         }
@@ -39,6 +41,19 @@ pub struct Report {
     pub len: usize,
 }
 
+/// The fault on one line, as programs read it.
+impl fmt::Display for Report {
+    ghost output = { λ r. Some (report_text r) };
+
+    fn fmt<W: fmt::Write>(&self, f: &mut fmt::Formatter<W>) -> fmt::Result {
+        write!(
+            f,
+            "fault {} layer {} text {} place {} length {}",
+            self.number, self.layer, self.text, self.place, self.len
+        )
+    }
+}
+
 impl Span {
     /// A fault of a number and a layer at this part of a text.
     pub fn report(self, number: u8, layer: u8) -> Report
@@ -47,7 +62,7 @@ impl Span {
         Report {
             number,
             layer,
-            text: self.source.number(),
+            text: self.source.into(),
             place: self.place,
             len: self.len,
         }
@@ -63,12 +78,12 @@ pub enum WordFault {
     NoWord(Span),
 }
 
-impl WordFault {
-    /// What the station shows of a word fault: 2 or 3, in layer 1.
-    pub fn report(self) -> Report
-        ensures { result ≡ word_report self }
-    {
-        match self {
+/// What the station shows of a word fault: 2 or 3, in layer 1.
+impl From<WordFault> for Report {
+    ghost from_gives = { λ f r. r ≡ word_report f };
+
+    fn from(fault: WordFault) -> Report {
+        match fault {
             WordFault::TooLarge(span) => span.report(2, 1),
             WordFault::NoWord(span) => span.report(3, 1),
         }

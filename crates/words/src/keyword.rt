@@ -1,8 +1,7 @@
 // Which bytes are reserved words.
 ghost use Rattle.std.specs.Prelude.{◌≡◌};
-ghost use Rattle.std.specs.Str.{bytes_eq};
 ghost use Rattle.words.specs.Signs.{spelling as spelled};
-ghost use Rattle.words.specs.Stream.{first_spelling, reserved as reserved_as};
+ghost use Rattle.words.specs.Stream.{reserved as reserved_as};
 
 use crate::word::Keyword;
 
@@ -57,28 +56,12 @@ pub(crate) fn spelling(keyword: Keyword) -> &'static [u8]
     }
 }
 
-/// Whether two parts of a text have the same bytes.
-pub(crate) fn same_bytes(a: &[u8], b: &[u8]) -> bool
-    ensures { result ≡ bytes_eq a.now b.now }
-{
-    a == b
-}
-
-/// The first of some reserved words that has these bytes, if one has them.
-fn first_spelled(keywords: &[Keyword], bytes: &[u8]) -> Option<Keyword>
-    ensures { result ≡ first_spelling keywords.now bytes.now }
-{
-    for keyword in keywords {
-        if same_bytes(bytes, spelling(*keyword)) {
-            return Some(*keyword);
-        }
-    }
-    None
-}
-
 /// The reserved word with these bytes, if one has them.
 pub(crate) fn reserved(bytes: &[u8]) -> Option<Keyword>
     ensures { result ≡ reserved_as bytes.now }
 {
-    first_spelled(&KEYWORDS, bytes)
+    KEYWORDS
+        .iter()
+        .copied()
+        .find(|keyword| bytes == spelling(*keyword))
 }

@@ -1,10 +1,11 @@
 // The word that begins at a byte, or how many bytes there begin none.
 ghost use Rattle.std.specs.Prelude.{◌≡◌, ◌+◌, ◌<◌, ◌≤◌, length, drop};
 ghost use Rattle.words.specs.Reading.{word_or, placed};
-ghost use Rattle.words.specs.Runs.{digit, in_name, run as run_of};
+ghost use Rattle.std.specs.List.{prefix_len};
+ghost use Rattle.words.specs.Runs.{digit, in_name};
 ghost use Rattle.words.specs.Stream.{name_lexeme, number_lexeme, minus_lexeme, mark_lexeme, lexeme};
 
-use crate::byte::{Class, is_digit, is_letter, run};
+use crate::byte::{digits, is_digit, is_letter, name_bytes};
 use crate::keyword::reserved;
 use crate::word::{Mark, Word};
 
@@ -16,9 +17,9 @@ const MOST_DIGITS: usize = 3;
 
 /// The reserved word or the name at the front of `bytes`, or its length if it has more than 16 bytes.
 fn name<'a>(bytes: &'a [u8], place: usize) -> Result<Word<'a>, usize>
-    ensures { word_or result ≡ placed place (name_lexeme bytes.now (run_of in_name bytes.now) place) }
+    ensures { word_or result ≡ placed place (name_lexeme bytes.now (prefix_len in_name bytes.now) place) }
 {
-    let len = run(Class::InName, bytes);
+    let len = name_bytes(bytes);
     if len > LONGEST_NAME {
         return Err(len);
     }
@@ -32,9 +33,9 @@ fn name<'a>(bytes: &'a [u8], place: usize) -> Result<Word<'a>, usize>
 /// The number whose digits begin after `minus` bytes, or its length if it has more than 3 digits.
 fn number<'a>(bytes: &'a [u8], minus: usize, place: usize) -> Result<Word<'a>, usize>
     requires { minus ≤ length bytes.now }
-    ensures { word_or result ≡ placed place (number_lexeme bytes.now minus (run_of digit (drop minus bytes.now)) place) }
+    ensures { word_or result ≡ placed place (number_lexeme bytes.now minus (prefix_len digit (drop minus bytes.now)) place) }
 {
-    let digits = run(Class::Digit, &bytes[minus..]);
+    let digits = digits(&bytes[minus..]);
     let len = minus + digits;
     if digits > MOST_DIGITS {
         return Err(len);
@@ -49,20 +50,14 @@ fn number<'a>(bytes: &'a [u8], minus: usize, place: usize) -> Result<Word<'a>, u
 fn minus<'a>(bytes: &'a [u8], place: usize) -> Result<Word<'a>, usize>
     ensures { word_or result ≡ placed place (minus_lexeme bytes.now place) }
 {
-    if bytes.len() < 2 {
-        return Err(1);
-    }
-    let second = bytes[1];
-    if second == b'>' {
-        return Ok(Word::Mark {
+    match bytes {
+        [_, b'>', ..] => Ok(Word::Mark {
             place,
             mark: Mark::Arrow,
-        });
+        }),
+        [_, second, ..] if is_digit(*second) => number(bytes, 1, place),
+        _ => Err(1),
     }
-    if is_digit(second) {
-        return number(bytes, 1, place);
-    }
-    Err(1)
 }
 
 /// The mark that is one byte, or that the byte begins no word.

@@ -1,9 +1,11 @@
 // Names as values: their bytes, and where they stand in a text.
-ghost use Rattle.std.specs.Prelude.{◌≡◌, take, Decides};
+ghost use Rattle.std.specs.Prelude.{◌≡◌, take};
 ghost use Rattle.words.specs.Signs.{name_of};
 
+use crate::fault::{Source, Span};
+
 /// The bytes of a name, at most 16, with zeros behind them.
-#[derive(Clone, Copy)]
+#[derive(Clone, Copy, PartialEq, Eq)]
 pub struct Name {
     pub len: usize,
     pub bytes: [u8; 16],
@@ -20,13 +22,6 @@ impl Name {
         Name { len, bytes: all }
     }
 
-    /// Whether two names are the same.
-    pub fn same(self, other: Name) -> bool
-        ensures { Decides result (self ≡ other) }
-    {
-        self.len == other.len && self.bytes == other.bytes
-    }
-
     /// The bytes of the name, without the zeros behind them.
     pub fn as_bytes(&self) -> &[u8]
         ensures { result.now ≡ take self.now.len self.now.bytes }
@@ -41,4 +36,17 @@ impl Name {
 pub struct Ident {
     pub place: usize,
     pub name: Name,
+}
+
+impl Ident {
+    /// The part of a text that the name is.
+    pub fn span(self, source: Source) -> Span
+        ensures { result ≡ record { source = source; place = self.place; len = self.name.len } }
+    {
+        Span {
+            source,
+            place: self.place,
+            len: self.name.len,
+        }
+    }
 }

@@ -1,10 +1,11 @@
 // Fetches the words of a text one at a time.
 ghost use Rattle.std.specs.Prelude.{◌≡◌, ◌+◌, ◌<◌, ◌≤◌, length, drop, IfOk, MatchResult};
 ghost use Rattle.words.specs.Reading.{rest, source_of, said_ok, Short, too_large};
-ghost use Rattle.words.specs.Runs.{blank, run as run_of};
+ghost use Rattle.std.specs.List.{prefix_len};
+ghost use Rattle.words.specs.Runs.{blank};
 ghost use Rattle.words.specs.Stream.{words_of, head_of, tail_of, bytes_in, Proper, WellPlaced};
 
-use crate::byte::{Class, run};
+use crate::byte::blanks;
 use crate::fault::{Source, Span, WordFault};
 use crate::lexeme::word_at;
 use crate::word::Word;
@@ -80,10 +81,10 @@ impl<'a> Reader<'a> {
 
 /// The place of the first byte from `at` on that is no blank.
 fn past_blanks(text: &[u8], at: usize) -> usize
-    ensures { result ≡ at + run_of blank (drop at text.now) }
+    ensures { result ≡ at + prefix_len blank (drop at text.now) }
 {
     if at >= text.len() {
         return at;
     }
-    at + run(Class::Blank, &text[at..])
+    at + blanks(&text[at..])
 }

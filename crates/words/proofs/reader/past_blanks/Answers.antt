@@ -1,11 +1,12 @@
 use Rattle.std.proofs.Common.{ap, ◌∙◌, arith}
+use Rattle.std.specs.List.{prefix_len}
 use Rattle.std.proofs.lemmas.List.{take_rest}
-use Rattle.words.specs.Runs.{blank, run}
-use Rattle.words.proofs.Runs.{run_end}
+use Rattle.std.proofs.lemmas.List.Sums.{prefix_len-drop_all}
+use Rattle.words.specs.Runs.{blank}
 use Rattle.words.proofs.reader.past_blanks.Goals as goal
 
 pub returns-then-at-text : goal.returns-then-at-text
-returns-then-at-text c = omega (arith, run_end blank c.args.text.now c.args.at c.if-at-text.true)
+returns-then-at-text c = omega (arith, prefix_len-drop_all blank c.args.text.now c.args.at c.if-at-text.true)
 
 pub returns : goal.returns
-returns c = omega (arith, c.run.ensures.value ∙ ap (run blank) (take_rest c.args.text.now c.args.at))
+returns c = omega (arith, c.blanks.ensures.value ∙ ap (prefix_len blank) (take_rest c.args.text.now c.args.at))
