@@ -19,10 +19,9 @@ pub trait Parts {
     fn part_count(&self) -> usize
         ensures answer { result ≡ part_count self.now };
 
-    /// The part with a number; none where its text is empty.
+    /// The part with a number; none where its text is empty, or there is no such number.
     fn part(&self, i: usize) -> Option<Self::Part>
-        requires { i < part_count self.now }
-        ensures answer { MatchOption result (part_text self.now i ≡ []) (λ x. Self.Part.output x ≡ Some (part_text self.now i)) };
+        ensures answer { MatchOption result (i < part_count self.now → part_text self.now i ≡ []) (λ x. Self.Part.output x ≡ Some (part_text self.now i)) };
 }
 
 /// All parts, one after the other.

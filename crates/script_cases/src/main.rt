@@ -41,6 +41,7 @@ fn answer_line(heap: Global, line: &str) -> anyhow::Result<String> {
     Ok(answer(heap, text.as_slice(), script.as_slice())?)
 }
 
+// As in `cases`: one function for both would take the runtime and a closure, and be no shorter.
 fn main(rt: HostRuntime) -> anyhow::Result<()> {
     let heap = rt.alloc();
     for line in rt.lines(heap) {
