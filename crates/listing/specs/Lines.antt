@@ -1,7 +1,6 @@
 -- What people read of a fault.
 --   is_line_feed b, in_line b    the byte b ends a line, or does not
 --   LineStart front r         the last line of front begins at r
---   fault_text f               "fault N layer L text T place P length Q"
 --   position_of file l c       "FILE:LINE:COLUMN"
 --   underline n q              n spaces, and then as many marks as a word of q bytes has, or one
 --   page_of                    the lines of a refusal
@@ -11,6 +10,7 @@
 use Rattle.std.specs.Prelude.{◌≡◌, ℕ, ◌+◌, ◌-◌, ◌^◌, ◌<◌, ◌≤◌, min, max, Bool, cond, not, ◌&&◌, ◌⊎◌, List, ◌++◌, map, length, take, drop, replicate, codes, decimal, count_by, ◌==◌, ◌≢◌, nat_le, nat_lt, slice_index}
 use Rattle.std.specs.List.{prefix_len}
 use Rattle.words.specs.declared.fault.Report.{Report}
+use Rattle.words.specs.Faults.{report_text}
 
 abbrev pub is_line_feed : ℕ → Bool
 is_line_feed b = b == 10
@@ -22,11 +22,6 @@ pub record LineStart (front : List ℕ) (r : ℕ) : Type 0 where
   pub within : r ≤ length front
   pub behind : (r ≡ 0) ⊎ (slice_index front (r - 1) ≡ 10)
   pub last : (i : ℕ) → r ≤ i → i < length front → slice_index front i ≢ 10
-
-abbrev pub fault_text : Report → List ℕ
-fault_text f =
-    codes "fault " ++ (decimal f.number ++ (codes " layer " ++ (decimal f.layer ++ (codes " text " ++ (decimal f.text
-    ++ (codes " place " ++ (decimal f.place ++ (codes " length " ++ decimal f.len))))))))
 
 abbrev pub shown_byte : ℕ → ℕ
 shown_byte b = cond (nat_le 32 b && nat_lt b 127) b 32
@@ -50,7 +45,7 @@ pub record Explains (file text : List ℕ) (f : Report) (s : List ℕ) : Type 0 
   pub start : ℕ
   pub words : List ℕ
   pub starts : LineStart (take f.place text) start
-  pub says : s ≡ page_of (fault_text f)
+  pub says : s ≡ page_of (report_text f)
       (position_of file (min (count_by is_line_feed (take f.place text) + 1) (2 ^ 64 - 1)) (min (length (take f.place text) - start + 1) (2 ^ 64 - 1)))
       (map shown_byte (take (prefix_len in_line (drop start text)) (drop start text)))
       (underline (length (take f.place text) - start) f.len) f.number words

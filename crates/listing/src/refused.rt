@@ -2,40 +2,19 @@
 // refusal in plain words.
 ghost use Rattle.std.specs.Prelude.{◌≡◌, ◌≤◌, max, ◌++◌, map, length, take, drop, replicate, IfOk, Some, string_bytes, count_by};
 ghost use Rattle.std.specs.List.{prefix_len};
-ghost use Rattle.listing.specs.Lines.{fault_text, in_line, is_line_feed, shown_byte, page_of, position_of, underline, Explains, LineStart};
+ghost use Rattle.words.specs.Faults.{report_text};
+ghost use Rattle.listing.specs.Lines.{in_line, is_line_feed, shown_byte, page_of, position_of, underline, Explains, LineStart};
 
 use crate::shown::ShownBytes;
 use std::alloc::{AllocError, Global};
 use std::fmt;
 use words::fault::Report;
 
-// A fault on one line.
-#[derive(Clone, Copy)]
-struct FaultLine(Report);
-
-impl fmt::Display for FaultLine {
-    ghost output = { λ fault. Some (fault_text fault.0) };
-
-    fn fmt<W: fmt::Write>(&self, f: &mut fmt::Formatter<W>) -> fmt::Result {
-        let Report {
-            number,
-            layer,
-            text,
-            place,
-            len,
-        } = self.0;
-        write!(
-            f,
-            "fault {number} layer {layer} text {text} place {place} length {len}"
-        )
-    }
-}
-
 /// The fault on one line, as programs read it.
 pub fn fault_line(heap: Global, report: Report) -> Result<String, AllocError>
-    ensures { IfOk result (λ s. string_bytes s ≡ fault_text report) }
+    ensures { IfOk result (λ s. string_bytes s ≡ report_text report) }
 {
-    FaultLine(report).to_string(heap)
+    report.to_string(heap)
 }
 
 // A refusal in plain words.
@@ -134,7 +113,7 @@ struct Page<'f, 't> {
 }
 
 impl fmt::Display for Page<'_, '_> {
-    ghost output = { λ p. Some (page_of (fault_text p.report) (position_of p.file.now p.line p.column) (map shown_byte p.row.0.now) (underline p.mark.indent p.mark.len) p.report.number p.words.now) };
+    ghost output = { λ p. Some (page_of (report_text p.report) (position_of p.file.now p.line p.column) (map shown_byte p.row.0.now) (underline p.mark.indent p.mark.len) p.report.number p.words.now) };
 
     fn fmt<W: fmt::Write>(&self, f: &mut fmt::Formatter<W>) -> fmt::Result {
         let Page {
@@ -146,9 +125,8 @@ impl fmt::Display for Page<'_, '_> {
             mark,
             words,
         } = *self;
-        let fault = FaultLine(report);
         let number = report.number;
-        writeln!(f, "{fault}\n{file}:{line}:{column}\n{row}\n{mark}")?;
+        writeln!(f, "{report}\n{file}:{line}:{column}\n{row}\n{mark}")?;
         writeln!(f, "refused {number}: {words}")
     }
 }

@@ -24,5 +24,5 @@ word_report (NoWord sp) = report_at 3 1 sp
 
 abbrev pub report_text : Report → List ℕ
 report_text r =
-    codes "fault " ++ decimal r.number ++ codes " layer " ++ decimal r.layer ++ codes " text " ++ decimal r.text ++ codes " place " ++ decimal r.place
-    ++ codes " length " ++ decimal r.len
+    codes "fault " ++ (decimal r.number ++ (codes " layer " ++ (decimal r.layer ++ (codes " text " ++ (decimal r.text
+    ++ (codes " place " ++ (decimal r.place ++ (codes " length " ++ decimal r.len))))))))
