@@ -7,15 +7,15 @@ mod tests;
 
 use contracts::check::check;
 use listing::accepted::list_contracts;
-use listing::refused::fault_line;
 use listing::shown::OneLine;
 use std::alloc::{AllocError, Global};
+use words::fault::Report;
 
 // The answer to a text on one line.
 fn answer(heap: Global, text: &[u8]) -> Result<String, AllocError> {
     match check(text) {
         Ok(set) => OneLine(list_contracts(heap, &set)?.as_str()).to_string(heap),
-        Err(fault) => fault_line(heap, fault.report()),
+        Err(fault) => Report::from(fault).to_string(heap),
     }
 }
 

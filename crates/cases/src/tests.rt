@@ -2,16 +2,18 @@
 use contracts::check::check;
 use listing::refused::explain;
 use std::test::Fail;
+use syntax::tree::Mark;
+use words::fault::Report;
 
 // The bounds of the first contract, where the text is accepted.
 fn bounds(text: &[u8]) -> Option<(u8, u8)> {
     let set = check(text).ok()?;
-    Some((set.out_bound(0)?, set.in_bound(0)?))
+    Some((set.bound(0, Mark::Out)?, set.bound(0, Mark::In)?))
 }
 
 // Number, place and length of the fault; none where the text is accepted.
 fn fault(text: &[u8]) -> Option<(u8, usize, usize)> {
-    let report = check(text).err()?.report();
+    let report = Report::from(check(text).err()?);
     Some((report.number, report.place, report.len))
 }
 
@@ -48,7 +50,7 @@ fn a_refusal_shows_file_line_column_and_word(rt: HostRuntime) -> Result<(), Fail
     let Err(fault) = check(text) else {
         return Err(Fail::new("accepted"));
     };
-    let shown = explain(rt.alloc(), "dig.txt", text, fault.report())?;
+    let shown = explain(rt.alloc(), "dig.txt", text, fault.into())?;
     assert_eq!(rt;
         shown.as_str(),
         "fault 11 layer 3 text 0 place 51 length 1\ndig.txt:4:22\n  state S { M! -> S; N? -> S; }\n                     ^\nrefused 11: the mark of this move differs from that of the state's first move\n"

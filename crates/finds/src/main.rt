@@ -23,7 +23,7 @@ fn check_file(rt: &HostRuntime, path: &str) -> anyhow::Result<()> {
             Ok(())
         }
         Err(fault) => {
-            rt.print(explain(heap, path, text.as_slice(), fault.report())?)?;
+            rt.print(explain(heap, path, text.as_slice(), fault.into())?)?;
             bail!("the contracts are refused")
         }
     }

@@ -11,6 +11,7 @@ use crate::parts::{AllParts, Parts};
 use crate::shown::ShownName;
 use contracts::declaration::{Message, Payload};
 use contracts::set::ContractSet;
+use contracts::set::family::Family;
 use std::alloc::{AllocError, Global};
 use std::fmt;
 use syntax::tree::{Mark, Role};
@@ -210,7 +211,7 @@ impl<'a> Parts for States<'a> {
 
     fn part(&self, s: usize) -> Option<StateLines<'a>> {
         let contract = self.0;
-        let name = contract.set.state_name(contract.number, s)?;
+        let name = contract.set.name(Family::States(contract.number), s)?;
         Some(StateLines {
             name,
             moves: Moves { contract, state: s },
@@ -252,9 +253,9 @@ fn contract_lines<'a>(set: &'a ContractSet, number: usize) -> Option<ContractLin
 {
     Some(ContractLines {
         contract: Contract { set, number },
-        name: set.contract_name(number)?,
-        out_bound: set.out_bound(number)?,
-        in_bound: set.in_bound(number)?,
+        name: set.name(Family::Contracts, number)?,
+        out_bound: set.bound(number, Mark::Out)?,
+        in_bound: set.bound(number, Mark::In)?,
     })
 }
 

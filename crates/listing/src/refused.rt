@@ -10,13 +10,6 @@ use std::alloc::{AllocError, Global};
 use std::fmt;
 use words::fault::Report;
 
-/// The fault on one line, as programs read it.
-pub fn fault_line(heap: Global, report: Report) -> Result<String, AllocError>
-    ensures { IfOk result (λ s. string_bytes s ≡ report_text report) }
-{
-    report.to_string(heap)
-}
-
 // A refusal in plain words.
 // By its number, not by the type of the fault: the faults of scripts belong to crates that this one does not know.
 fn meaning(report: Report) -> &'static str {

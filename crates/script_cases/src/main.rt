@@ -5,7 +5,6 @@
 
 use contracts::check::check;
 use listing::accepted::list_contracts;
-use listing::refused::fault_line;
 use listing::shown::OneLine;
 use script_listing::accepted::list_scripts;
 use scripts::check::check as check_scripts;
@@ -15,8 +14,8 @@ use words::fault::Report;
 
 // The set of scripts that both texts spell, or the fault that is first.
 fn check_both(text: &[u8], script: &[u8]) -> Result<ScriptSet, Report> {
-    let contracts = check(text).map_err(|fault| fault.report())?;
-    check_scripts(script, contracts).map_err(|refusal| refusal.fault.report())
+    let contracts = check(text)?;
+    check_scripts(script, contracts).map_err(|refusal| Report::from(refusal.fault))
 }
 
 // The answer to a contract text and a script text on one line.
@@ -29,7 +28,7 @@ fn answer(heap: Global, text: &[u8], script: &[u8]) -> Result<String, AllocError
             let scripts = OneLine(scripts.as_str());
             format!(in heap; "{contracts}{scripts}")
         }
-        Err(report) => fault_line(heap, report),
+        Err(report) => report.to_string(heap),
     }
 }
 

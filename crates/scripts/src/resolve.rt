@@ -6,6 +6,7 @@ ghost use Rattle.scripts.specs.Names.{ContractOf, MessageOf, NoContract, NoMessa
 
 use crate::instruction::Instruction;
 use contracts::set::ContractSet;
+use contracts::set::family::Family;
 use script_syntax::tree::{Distance, Statement};
 use words::fault::{Source, Span};
 use words::name::Ident;
@@ -14,7 +15,7 @@ use words::name::Ident;
 fn contract_of(contracts: &ContractSet, ident: Ident) -> Result<u8, Span>
     ensures { MatchResult result (ContractOf (tables_in contracts.now) ident) (NoContract (tables_in contracts.now) ident) }
 {
-    match contracts.find_contract(ident.name) {
+    match contracts.find(Family::Contracts, ident.name) {
         Some(k) => Ok(k as u8),
         None => Err(ident.span(Source::Scripts)),
     }
@@ -24,7 +25,7 @@ fn contract_of(contracts: &ContractSet, ident: Ident) -> Result<u8, Span>
 fn message_of(contracts: &ContractSet, contract: u8, ident: Ident) -> Result<u8, Span>
     ensures { MatchResult result (MessageOf (tables_in contracts.now) contract ident) (NoMessage (tables_in contracts.now) contract ident) }
 {
-    match contracts.find_message(contract as usize, ident.name) {
+    match contracts.find(Family::Messages(contract as usize), ident.name) {
         Some(m) => Ok(m as u8),
         None => Err(ident.span(Source::Scripts)),
     }
