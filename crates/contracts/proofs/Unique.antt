@@ -35,7 +35,8 @@ use Rattle.contracts.specs.Numbers.{declaration_at, messages_in, states_in, Mess
 use Rattle.contracts.specs.Paths.{Path, stay, step}
 use Rattle.contracts.specs.Rules.{Along, Among, Unreached, Cycling}
 use Rattle.contracts.specs.Tables.{message_at, messages, states, table_at}
-use Rattle.contracts.specs.Transfers.{Sendable, sends, SilentEnd}
+use Rattle.syntax.specs.Roles.{sends}
+use Rattle.contracts.specs.Transfers.{Sendable, SilentEnd}
 use Rattle.contracts.proofs.Ranges.{all-declared}
 
 -- a name of a family has one number

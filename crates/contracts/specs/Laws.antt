@@ -16,7 +16,7 @@ use Rattle.contracts.specs.Moves.{Goes}
 use Rattle.contracts.specs.Paths.{Longest, Path}
 use Rattle.contracts.specs.Rules.{MaySend, OneWay}
 use Rattle.contracts.specs.Tables.{messages, payload_of, states, table_at}
-use Rattle.contracts.specs.Transfers.{sends}
+use Rattle.syntax.specs.Roles.{sends}
 
 abbrev pub Deterministic : Table → Type 0
 Deterministic t = (s m u v : ℕ) → Goes t.moves s m u → Goes t.moves s m v → u ≡ v

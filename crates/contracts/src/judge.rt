@@ -1,7 +1,7 @@
 // From the tree of a contract file to an accepted set, or the fault that is first by the rules.
 ghost use Rattle.std.specs.Prelude.{◌≡◌, ◌<◌, length};
 ghost use Rattle.syntax.specs.Trees.{parts, Ranged};
-ghost use Rattle.contracts.specs.Judgement.{fault_from, Inhabited, Judged, message_name, move_name, span_of as span_at, state_name, Within};
+ghost use Rattle.contracts.specs.Judgement.{fault_from, Inhabited, Judged, message_name, move_name, span_of, state_name, Within};
 ghost use Rattle.contracts.specs.Names.{head_at};
 
 use crate::broken::Broken;
@@ -12,43 +12,31 @@ use crate::set::ContractSet;
 use crate::set::accept::accept;
 use syntax::tree::Tree;
 use words::fault::{Source, Span};
-use words::name::Ident;
-
-// Where a name of a contract file stands.
-fn span_of(ident: Ident) -> Span
-    ensures { result ≡ span_at ident }
-{
-    Span {
-        source: Source::Contracts,
-        place: ident.place,
-        len: ident.name.len,
-    }
-}
 
 // Where the name of a move's message stands.
 fn move_span(tree: &Tree, i: usize) -> Span
     requires { i < length (parts tree.now).moves }
-    ensures { result ≡ span_at (move_name (parts tree.now) i) }
+    ensures { result ≡ span_of (move_name (parts tree.now) i) }
 {
-    span_of(tree.moves()[i].step.message)
+    tree.moves()[i].step.message.span(Source::Contracts)
 }
 
 // Where the name of a state stands.
 fn state_span(tree: &Tree, contract: usize, s: usize) -> Span
     requires contract { contract < length (parts tree.now).heads }
     requires state { s < length (head_at (parts tree.now).heads contract).states }
-    ensures { result ≡ span_at (state_name (parts tree.now) contract s) }
+    ensures { result ≡ span_of (state_name (parts tree.now) contract s) }
 {
-    span_of(tree.heads()[contract].states.as_slice()[s])
+    tree.heads()[contract].states.as_slice()[s].span(Source::Contracts)
 }
 
 // Where the name of a message stands.
 fn message_span(tree: &Tree, contract: usize, m: usize) -> Span
     requires contract { contract < length (parts tree.now).heads }
     requires message { m < length (head_at (parts tree.now).heads contract).messages }
-    ensures { result ≡ span_at (message_name (parts tree.now) contract m) }
+    ensures { result ≡ span_of (message_name (parts tree.now) contract m) }
 {
-    span_of(tree.heads()[contract].messages.as_slice()[m].ident)
+    tree.heads()[contract].messages.as_slice()[m].ident.span(Source::Contracts)
 }
 
 // The fault that a broken rule is shown as.
@@ -72,7 +60,7 @@ pub(crate) fn judge(tree: &Tree) -> Result<ContractSet, RuleFault>
     requires inhabited { Inhabited (parts tree.now) }
     ensures { Judged (parts tree.now) result }
 {
-    let numbered = resolve(tree).map_err(|ident| RuleFault::Undeclared(span_of(ident)))?;
+    let numbered = resolve(tree).map_err(|ident| RuleFault::Undeclared(ident.span(Source::Contracts)))?;
     let file = ByNumbers {
         declarations: numbered.declarations.as_slice(),
         moves: numbered.moves.as_slice(),

@@ -1,4 +1,5 @@
-// Finds names among those that a file declares.
+// Finds names among those that a file declares. What stands under a name is a definition of its own in each family, so one
+// search over all families would need a lemma for each.
 ghost use Rattle.std.specs.Prelude.{ℕ, ◌<◌, map, MatchOption};
 ghost use Rattle.syntax.specs.Trees.{declares};
 ghost use Rattle.contracts.specs.Names.{ContractNamed, EndNamed, MessageIn, StateIn};

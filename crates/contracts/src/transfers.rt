@@ -1,30 +1,20 @@
 // The rule on messages that carry an end: it may send in the state that is declared.
-ghost use Rattle.std.specs.Prelude.{◌≡◌, Decides, MatchOption};
+ghost use Rattle.std.specs.Prelude.{Decides, MatchOption};
 ghost use Rattle.contracts.specs.Rules.{First};
 ghost use Rattle.contracts.specs.Tables.{table_at};
-ghost use Rattle.contracts.specs.Transfers.{Lawful, Sendable, SendState, SilentEnd, sends};
+ghost use Rattle.contracts.specs.Transfers.{Lawful, Sendable, SendState, SilentEnd};
 
 use crate::declaration::Payload;
 use crate::rule::Rule;
 use crate::table::Table;
 use crate::walk::may_send;
-use syntax::tree::{Mark, Role};
-
-/// The mark of the messages that an end sends: the exporting end those that are `out`, the importing end those that are `in`.
-pub(crate) fn sent_mark(role: Role) -> Mark
-    ensures { result ≡ sends role }
-{
-    match role {
-        Role::Exporting => Mark::Out,
-        Role::Importing => Mark::In,
-    }
-}
+use syntax::tree::Role;
 
 // Is `s` a state of contract `c` in which this end may send?
 fn send_state(tables: &[Table], role: Role, c: usize, s: usize) -> bool
     ensures { Decides result (SendState tables.now role c s) }
 {
-    tables.get(c).is_some_and(|t| s < t.states().len() && may_send(t, sent_mark(role), s))
+    tables.get(c).is_some_and(|t| s < t.states().len() && may_send(t, role.into(), s))
 }
 
 // May this be carried: an end only in a state in which it may send?

@@ -4,3 +4,4 @@ pub mod Laws
 pub mod Picks
 pub mod Machine
 pub mod Parsing
+pub mod Roles

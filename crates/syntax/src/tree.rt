@@ -1,6 +1,7 @@
 // A contract file as it is written: what each contract declares, and all moves in the order of the text.
 ghost use Rattle.std.specs.Prelude.{◌≡◌};
 ghost use Rattle.grammar.specs.Rows.{row_items};
+ghost use Rattle.syntax.specs.Roles.{sends};
 
 use grammar::row::Row;
 use words::name::Ident;
@@ -19,7 +20,20 @@ pub enum Role {
     Importing,
 }
 
+/// The mark of the messages that an end sends: the exporting end those that are `out`, the importing end those that are `in`.
+impl From<Role> for Mark {
+    ghost from_gives = { λ r m. m ≡ sends r };
+
+    fn from(role: Role) -> Mark {
+        match role {
+            Role::Exporting => Mark::Out,
+            Role::Importing => Mark::In,
+        }
+    }
+}
+
 /// What a message is declared to carry: nothing, a block, or an end of a contract in a state.
+// By names, where an accepted contract has numbers: one enum over both would put a type into each clause on either.
 #[derive(Clone, Copy)]
 pub enum Payload {
     Nothing,
