@@ -36,7 +36,9 @@ fn message_span(tree: &Tree, contract: usize, m: usize) -> Span
     requires message { m < length (head_at (parts tree.now).heads contract).messages }
     ensures { result ≡ span_of (message_name (parts tree.now) contract m) }
 {
-    tree.heads()[contract].messages.as_slice()[m].ident.span(Source::Contracts)
+    tree.heads()[contract].messages.as_slice()[m]
+        .ident
+        .span(Source::Contracts)
 }
 
 // The fault that a broken rule is shown as.
@@ -60,7 +62,9 @@ pub(crate) fn judge(tree: &Tree) -> Result<ContractSet, RuleFault>
     requires inhabited { Inhabited (parts tree.now) }
     ensures { Judged (parts tree.now) result }
 {
-    let numbered = resolve(tree).map_err(|ident| RuleFault::Undeclared(ident.span(Source::Contracts)))?;
+    let numbered = resolve(tree).map_err(|ident| RuleFault::Undeclared(ident.span(
+        Source::Contracts,
+    )))?;
     let file = ByNumbers {
         declarations: numbered.declarations.as_slice(),
         moves: numbered.moves.as_slice(),

@@ -34,6 +34,7 @@ pub(crate) fn find_state(states: &[Ident], name: Name) -> Option<usize>
 pub(crate) fn find_end(heads: &[Head], contract: Name, state: Name) -> Option<(usize, usize)>
     ensures { MatchOption result ((k u : ℕ) → EndNamed (map declares heads.now) contract state k u → ⊥) (λ x. EndNamed (map declares heads.now) contract state x.0 x.1) }
 {
+    // The answer has both numbers, and a contract of the name may lack the state, so one `position` does not find it.
     for (k, head) in heads.iter().enumerate() {
         let own = head.ident.name;
         if own == contract {

@@ -14,7 +14,9 @@ use syntax::tree::Role;
 fn send_state(tables: &[Table], role: Role, c: usize, s: usize) -> bool
     ensures { Decides result (SendState tables.now role c s) }
 {
-    tables.get(c).is_some_and(|t| s < t.states().len() && may_send(t, role.into(), s))
+    tables
+        .get(c)
+        .is_some_and(|t| s < t.states().len() && may_send(t, role.into(), s))
 }
 
 // May this be carried: an end only in a state in which it may send?

@@ -265,6 +265,7 @@ pub fn list_contracts(heap: Global, set: &ContractSet) -> Result<String, AllocEr
     ensures { IfOk result (λ s. Lists (tables_in set.now) (length (tables_in set.now)) (string_bytes s)) }
 {
     let mut out = String::new(heap);
+    // By number and not as `AllParts`: a listing's bounds are told by what they bound, so its text is no function of the set.
     for number in 0..set.contract_count() {
         if let Some(contract) = contract_lines(set, number) {
             out.write(contract)?;

@@ -32,6 +32,7 @@ impl<P: Parts> fmt::Display for AllParts<P> {
     ghost output = { λ all. Some (lines (P.part_text all.0) (P.part_count all.0)) };
 
     fn fmt<W: fmt::Write>(&self, f: &mut fmt::Formatter<W>) -> fmt::Result {
+        // A part is asked for by its number, so the loop goes over numbers.
         for i in 0..self.0.part_count() {
             if let Some(part) = self.0.part(i) {
                 f.write(part)?;

@@ -25,6 +25,7 @@ pub(crate) fn judge(tree: &Tree, contracts: &ContractSet) -> Result<Row<Script, 
     ensures sound { IfOk result (λ row. Sound (tables_in contracts.now) (scripts_of (row_items row))) }
 {
     let processes = tree.processes();
+    // With `map_err` the clause of `judge` did not close.
     let all = match scripts(contracts, processes) {
         Ok(all) => all,
         Err(span) => return Err(ScriptFault::Undeclared(span)),

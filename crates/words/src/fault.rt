@@ -32,6 +32,7 @@ impl From<Source> for u8 {
 }
 
 /// A fault as the station shows it: number, layer, text, place and length.
+// By numbers, since these are what a station shows; what they stand for are enums.
 #[derive(Clone, Copy, PartialEq, Eq)]
 pub struct Report {
     pub number: u8,
