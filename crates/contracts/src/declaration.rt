@@ -1,4 +1,5 @@
-// Contracts as they are declared, with numbers in place of names.
+// Contracts as they are declared, with numbers in place of names. These are types of their own beside those of a file's tree,
+// since a set outlives the text and its places.
 use grammar::row::Row;
 use syntax::tree::{Mark, Role};
 use words::name::Name;

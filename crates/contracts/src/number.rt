@@ -44,6 +44,7 @@ pub(crate) fn payload(tree: &Tree, written: PayloadTree) -> Result<Payload, Iden
 }
 
 // A move's message by its number, or its name where it is not declared.
+// That the contract is one of the file's is asked here of one move: the tree says it of all of them.
 pub(crate) fn message_of(tree: &Tree, entry: MoveEntry) -> Result<usize, Ident>
     requires { entry.contract < length (parts tree.now).heads }
     ensures { MatchResult result (MessageNamed (parts tree.now).heads entry.contract entry.step.message.name) (λ d. (entry.step.message ≡ d) × ((m : ℕ) → MessageNamed (parts tree.now).heads entry.contract entry.step.message.name m → ⊥)) }

@@ -4,6 +4,7 @@ ghost use Rattle.std.specs.Prelude.{◌≡◌, ◌≤◌, ⊤};
 use std::alloc::AllocError;
 
 /// At most `N` elements, in order.
+// A fixed table and its length, held by one type: no answer on a file may be that memory ran out.
 pub struct Row<T, const N: usize> {
     items: [T; N],
     len: usize,

@@ -23,7 +23,8 @@ use parser::Parser;
 use tree::Tree;
 use words::fault::Source;
 
-// The file whose words are left.
+// The file whose words are left. Other grammars have the like; one function over them would be handed a parser, a machine
+// and laws, and say less.
 fn parsed(feed: Feed<'_>) -> Result<Tree, GrammarFault>
     requires { (source_in feed ≡ sources.Contracts) × (bytes_in (left feed) ≤ 4096) }
     ensures { outcome result ≡ run ask sources.Contracts (start (parts_of [])) (left feed.entry) }

@@ -78,6 +78,7 @@ pub struct Head {
 }
 
 /// The contracts of a file, and all their moves in the order of the text.
+// That all numbers are in range is a clause of `read_contracts`: as a ghost field it would name what speaks of the tree.
 /// A file of 4,096 bytes has at most 682 moves, since a move takes six.
 #[derive(Drop)]
 pub struct Tree {

@@ -32,6 +32,7 @@ fn is_in_name(b: u8) -> bool
 }
 
 /// How many blanks a text begins with.
+// One function for each kind, since with the kind as a closure the clause did not close.
 pub(crate) fn blanks(bytes: &[u8]) -> usize
     ensures within { result ≤ length bytes.now }
     ensures value { result ≡ prefix_len blank bytes.now }

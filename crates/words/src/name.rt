@@ -5,6 +5,7 @@ ghost use Rattle.words.specs.Signs.{name_of};
 use crate::fault::{Source, Span};
 
 /// The bytes of a name, at most 16, with zeros behind them.
+// Fixed bytes and their number: a name outlives its text, and to keep one takes no memory that could run out.
 #[derive(Clone, Copy, PartialEq, Eq)]
 pub struct Name {
     pub len: usize,
