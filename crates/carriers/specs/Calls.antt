@@ -1,5 +1,6 @@
 -- What each call of a carrier does to its boxes, and where it is refused.
 --   refusal_number e                 the number of a refusal, 30 to 33
+--   refusal_text e                   a refusal as it is printed
 --   Opened pool bs b l bs'          box b was closed and is open now, with limit l and no message
 --   Put bs b m bs'                  box b was open and not full, and has m behind its messages now
 --   Taken bs b m bs'                box b was open, m was its first message, and the others are left
@@ -10,7 +11,7 @@
 --   Puts, Takes, Closes             the same of the other calls
 --   Counts bs b r, Slacks bs b r    the question answers r
 -- In an accepted call every box but b is as it was, in a refused one every box.
-use Rattle.std.specs.Prelude.{◌≡◌, ℕ, ◌+◌, ◌-◌, ◌<◌, ◌≤◌, true, false, List, [], ◌∷◌, ◌++◌, length, drop, Ok, Err, Result, slice_set}
+use Rattle.std.specs.Prelude.{◌≡◌, ℕ, ◌+◌, ◌-◌, ◌<◌, ◌≤◌, true, false, List, [], ◌∷◌, ◌++◌, length, drop, Ok, Err, Result, codes, decimal, slice_set}
 use Rattle.carriers.specs.declared.message.Message.{Message}
 use Rattle.carriers.specs.declared.refusal.CarrierRefusal.{CarrierRefusal}
 use Rattle.carriers.specs.declared.refusal.CarrierRefusal.TheVariants.{OutOfRange, OpenOrClosed, FullOrEmpty, NoSpare}
@@ -21,6 +22,9 @@ refusal_number OutOfRange = 30
 refusal_number OpenOrClosed = 31
 refusal_number FullOrEmpty = 32
 refusal_number NoSpare = 33
+
+abbrev pub refusal_text : CarrierRefusal → List ℕ
+refusal_text e = codes "refused " ++ decimal (refusal_number e)
 
 pub record Opened (pool : ℕ) (bs : List Box) (b l : ℕ) (bs' : List Box) : Type 0 where
   pub numbered : b < 64

@@ -20,6 +20,7 @@ impl BoxNumber {
     }
 }
 
+/// The number of a box.
 impl From<BoxNumber> for u8 {
     ghost from_gives = { λ b n. n ≡ b.number };
 
@@ -28,6 +29,7 @@ impl From<BoxNumber> for u8 {
     }
 }
 
+/// The box with a number; refused by 30 above 63.
 impl TryFrom<u8> for BoxNumber {
     type Error = CarrierRefusal;
 

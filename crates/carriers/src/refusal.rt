@@ -1,6 +1,6 @@
 // Why a carrier refuses a call.
-ghost use Rattle.std.specs.Prelude.{◌≡◌};
-ghost use Rattle.carriers.specs.Calls.{refusal_number};
+ghost use Rattle.std.specs.Prelude.{◌≡◌, Some};
+ghost use Rattle.carriers.specs.Calls.{refusal_number, refusal_text};
 
 use std::error::Error;
 use std::fmt;
@@ -18,10 +18,10 @@ pub enum CarrierRefusal {
     NoSpare,
 }
 
+/// The number of a refusal, 30 to 33.
 impl From<CarrierRefusal> for u8 {
     ghost from_gives = { λ e n. n ≡ refusal_number e };
 
-    /// The number of a refusal, 30 to 33.
     fn from(refusal: CarrierRefusal) -> u8 {
         match refusal {
             CarrierRefusal::OutOfRange => 30,
@@ -32,7 +32,10 @@ impl From<CarrierRefusal> for u8 {
     }
 }
 
+/// A refusal as it is printed, by its number.
 impl fmt::Display for CarrierRefusal {
+    ghost output = { λ e. Some (refusal_text e) };
+
     fn fmt<W: fmt::Write>(&self, f: &mut fmt::Formatter<W>) -> fmt::Result {
         write!(f, "refused {}", u8::from(*self))
     }

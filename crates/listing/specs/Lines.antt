@@ -7,7 +7,8 @@
 --   Explains file text f s    s has the fault line, file, line and column, the line with the word underlined, and some words
 --   shown_byte b               what is printed for b: itself, or a space where it cannot be printed
 --   on_one_line b             what is printed for b where a text is shown on one line: a bar where a line ends
-use Rattle.std.specs.Prelude.{◌≡◌, ℕ, ◌+◌, ◌-◌, ◌^◌, ◌<◌, ◌≤◌, min, max, Bool, cond, not, ◌&&◌, ◌⊎◌, List, ◌++◌, map, length, take, drop, replicate, codes, decimal, count_by, ◌==◌, ◌≢◌, nat_le, nat_lt, slice_index}
+--   is_digit b, pairs_of ds    b is a hexadecimal digit; the digits that have a second
+use Rattle.std.specs.Prelude.{◌≡◌, ℕ, ◌+◌, ◌-◌, ◌^◌, ◌<◌, ◌≤◌, min, max, Bool, cond, not, ◌&&◌, ◌⊎◌, List, ◌++◌, map, length, take, drop, replicate, codes, decimal, count_by, ◌==◌, ◌≢◌, nat_le, nat_lt, slice_index, ◌||◌, ◌*◌, ◌/◌}
 use Rattle.std.specs.List.{prefix_len}
 use Rattle.words.specs.declared.fault.Report.{Report}
 use Rattle.words.specs.Faults.{report_text}
@@ -49,3 +50,9 @@ pub record Explains (file text : List ℕ) (f : Report) (s : List ℕ) : Type 0 
       (position_of file (min (count_by is_line_feed (take f.place text) + 1) (2 ^ 64 - 1)) (min (length (take f.place text) - start + 1) (2 ^ 64 - 1)))
       (map shown_byte (take (prefix_len in_line (drop start text)) (drop start text)))
       (underline (length (take f.place text) - start) f.len) f.number words
+
+abbrev pub is_digit : ℕ → Bool
+is_digit b = (nat_le 48 b && nat_le b 57) || (nat_le 97 b && nat_le b 102)
+
+abbrev pub pairs_of : List ℕ → List ℕ
+pairs_of ds = take (length ds / 2 * 2) ds

@@ -5,3 +5,4 @@ pub mod accepted;
 pub mod parts;
 pub mod refused;
 pub mod shown;
+pub mod table;

@@ -6,6 +6,7 @@
 use contracts::check::check;
 use listing::accepted::list_contracts;
 use listing::shown::OneLine;
+use listing::table::digits;
 use script_listing::accepted::list_scripts;
 use scripts::check::check as check_scripts;
 use scripts::set::ScriptSet;
@@ -34,9 +35,9 @@ fn answer(heap: Global, text: &[u8], script: &[u8]) -> Result<String, AllocError
 
 // The answer to a line of the input.
 fn answer_line(heap: Global, line: &str) -> anyhow::Result<String> {
-    let (text, script) = line.split_once(' ').unwrap_or((line, ""));
-    let text = hex::decode(heap, text)?;
-    let script = hex::decode(heap, script)?;
+    let mut texts = line.split(' ');
+    let text = hex::decode(heap, digits(heap, texts.next().unwrap_or(""))?)?;
+    let script = hex::decode(heap, digits(heap, texts.next().unwrap_or(""))?)?;
     Ok(answer(heap, text.as_slice(), script.as_slice())?)
 }
 
