@@ -1,5 +1,5 @@
 // Names as values: their bytes, and where they stand in a text.
-ghost use Rattle.std.specs.Prelude.{◌≡◌, take};
+ghost use Rattle.std.specs.Prelude.{◌≡◌, take, Decides};
 ghost use Rattle.words.specs.Signs.{name_of};
 
 use crate::fault::{Source, Span};
@@ -21,6 +21,13 @@ impl Name {
         let mut all = [0; 16];
         all[..len].copy_from_slice(&bytes[..len]);
         Name { len, bytes: all }
+    }
+
+    /// Whether two names are the same.
+    pub fn same(self, other: Name) -> bool
+        ensures { Decides result (self ≡ other) }
+    {
+        self == other
     }
 
     /// The bytes of the name, without the zeros behind them.
