@@ -9,7 +9,8 @@
 --   fetched f from       what f reads off the next word of a feed, or the fault
 --   Moved a b            the feed b is the feed a after one word
 --   Fetches n f a r b    r is what f reads off the next word of the feed a, of at least n bytes, or the fault; b is a after that word
---   admitted from n limit ns      whether the name n may join a family that has the names ns and room for limit
+--   admitted from n full seen     whether the name n may join its family
+--   admitted_to from n limit ns   whether the name n may join a family that has the names ns and room for limit
 use Rattle.std.specs.Prelude.{◌≡◌, ℕ, ◌+◌, ◌≤◌, Bool, true, false, cond, List, length, Some, None, OnOk, Ok, Err, Option, Result, nat_le}
 use Rattle.words.specs.declared.name.Ident.{Ident}
 use Rattle.words.specs.declared.word.Keyword.{Keyword}
@@ -57,7 +58,10 @@ pub record Fetches {X : Type 0} (n : ℕ) (f : Sign → Option X) (a : Feed) (r 
   pub spent : OnOk r (n + bytes_in (left b) ≤ bytes_in (left a))
   pub fewer : bytes_in (left b) ≤ bytes_in (left a)
 
-abbrev pub admitted : Source → Ident → ℕ → List Ident → Result (Unit {0}) GrammarFault
-admitted from n limit ns =
-    cond (nat_le limit (length ns)) (Err (fault.TooMany (record { source = from; place = n.place; len = n.name.len })))
-    (cond (known n ns) (Err (fault.Repeated (record { source = from; place = n.place; len = n.name.len }))) (Ok tt))
+abbrev pub admitted : Source → Ident → Bool → Bool → Result (Unit {0}) GrammarFault
+admitted from n full seen =
+    cond full (Err (fault.TooMany (record { source = from; place = n.place; len = n.name.len })))
+    (cond seen (Err (fault.Repeated (record { source = from; place = n.place; len = n.name.len }))) (Ok tt))
+
+abbrev pub admitted_to : Source → Ident → ℕ → List Ident → Result (Unit {0}) GrammarFault
+admitted_to from n limit ns = admitted from n (nat_le limit (length ns)) (known n ns)

@@ -3,7 +3,7 @@ ghost use Rattle.std.specs.Prelude.{◌≡◌, ◌≤◌, map, length};
 ghost use Rattle.words.specs.Signs.{said, name_of, mark_size};
 ghost use Rattle.grammar.specs.Rows.{row_items};
 ghost use Rattle.grammar.specs.Table.{refused, in_name};
-ghost use Rattle.grammar.specs.Feeds.{in_keyword, in_keyword_or_end, in_keyword_or_mark, in_mark, in_name_or, source_in, Fetches, admitted};
+ghost use Rattle.grammar.specs.Feeds.{in_keyword, in_keyword_or_end, in_keyword_or_mark, in_mark, in_name_or, source_in, Fetches, admitted, admitted_to};
 
 use crate::family::{Named, has_name};
 use crate::fault::GrammarFault;
@@ -111,16 +111,9 @@ impl<'a> Feed<'a> {
     }
 
     /// Whether a name may join its family: 6 where there is no room, 7 where it stands before.
-    pub fn admit<T: Named + Copy, const N: usize>(
-        &self,
-        ident: Ident,
-        family: &Row<T, N>,
-    ) -> Result<(), GrammarFault>
-        ensures { result ≡ admitted (source_in self.now) ident N (map T.named (row_items family.now)) }
+    pub fn admit(&self, ident: Ident, full: bool, seen: bool) -> Result<(), GrammarFault>
+        ensures { result ≡ admitted (source_in self.now) ident full seen }
     {
-        let names = family.as_slice();
-        let full = names.len() >= N;
-        let seen = has_name(names, ident);
         let span = ident.span(self.source());
         if full {
             return Err(GrammarFault::TooMany(span));
@@ -129,5 +122,17 @@ impl<'a> Feed<'a> {
             return Err(GrammarFault::Repeated(span));
         }
         Ok(())
+    }
+
+    /// Whether a name may join the family in a row: 6 where the row is full, 7 where the name stands in it.
+    pub fn admit_to<T: Named + Copy, const N: usize>(
+        &self,
+        ident: Ident,
+        family: &Row<T, N>,
+    ) -> Result<(), GrammarFault>
+        ensures { result ≡ admitted_to (source_in self.now) ident N (map T.named (row_items family.now)) }
+    {
+        let names = family.as_slice();
+        self.admit(ident, names.len() >= N, has_name(names, ident))
     }
 }

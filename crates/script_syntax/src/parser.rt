@@ -50,7 +50,7 @@ fn process(feed: &mut Feed<'_>, before: &Row<Process, 8>) -> Result<Process, Gra
     ensures room { OnOk result (length (row_items before.now) < 8) }
 {
     let ident = feed.name()?;
-    feed.admit(ident, before)?;
+    feed.admit_to(ident, before)?;
     feed.mark(Mark::OpenBrace)?;
     let statements = body(feed)?;
     Ok(Process { ident, statements })

@@ -107,7 +107,7 @@ impl<'a> Parser<'a> {
         ensures { Reads (q.state (progress self.old)) self.old result (λ _. q.entering (progress self.new)) self.new }
     {
         let ident = self.feed.name()?;
-        self.feed.admit(ident, &self.head.states)?;
+        self.feed.admit_to(ident, &self.head.states)?;
         let _ = self.head.states.push(ident);
         Ok(())
     }
@@ -142,7 +142,7 @@ impl<'a> Parser<'a> {
         ensures room { OnOk result (length (row_items self.new.heads) < 8) }
     {
         let ident = self.feed.name()?;
-        self.feed.admit(ident, &self.heads)?;
+        self.feed.admit_to(ident, &self.heads)?;
         Ok(ident)
     }
 

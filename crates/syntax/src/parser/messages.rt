@@ -69,7 +69,7 @@ impl<'a> Parser<'a> {
         ensures room { OnOk result (length (row_items self.new.head.messages) < 16) }
     {
         let ident = self.feed.name()?;
-        self.feed.admit(ident, &self.head.messages)?;
+        self.feed.admit_to(ident, &self.head.messages)?;
         Ok(ident)
     }
 
