@@ -44,6 +44,13 @@ impl<T: Copy, const N: usize> Row<T, N> {
         &self.items[..self.len]
     }
 
+    /// How many elements there are, and the table with what stands in the unused places.
+    pub fn table(&self) -> (usize, [T; N])
+        ensures { (result.0 ≡ self.now.len) × (result.1 ≡ self.now.items) }
+    {
+        (self.len, self.items)
+    }
+
     /// One element more at the end; gives it back, with nothing changed, where the row is full.
     pub fn push(&mut self, x: T) -> Result<(), T>
         ensures room { length (row_items self.old) < N → (result ≡ Ok tt) × (row_items self.new ≡ row_items self.old ++ x ∷ []) }
