@@ -5,6 +5,7 @@ use std::alloc::AllocError;
 
 /// At most `N` elements, in order.
 // A fixed table and its length, held by one type: no answer on a file may be that memory ran out.
+#[derive(Drop)]
 pub struct Row<T, const N: usize> {
     items: [T; N],
     len: usize,
