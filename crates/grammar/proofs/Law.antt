@@ -14,6 +14,21 @@ use Rattle.grammar.specs.Table.{Check, fine, too_many, repeated, out_of_range, c
 use Rattle.grammar.proofs.Tables.{Of, leads, onward, walk, along}
 use Rattle.grammar.proofs.Grammars.{check_level, level, Onto, Steps, Tabled}
 
+-- names say their own word's place, and so does a number that the table can find out of its range; no word is empty
+module _ {Q R : Type 0} (ask : Q → List (Alt Q R)) where
+  abbrev pub Placed : Stream → Type 0
+  Placed (stop p) = Unit {0}
+  Placed (bad p n) = Unit {0}
+  Placed (word w r) =
+      ((n : Ident) → w.sign ≡ s.Name n → n.place ≡ w.place)
+      × ((n : Numeral) → w.sign ≡ s.Number n → (a b : Q) (m : Numeral) → among (ask a) (s.Number n) ≡ Some (new b (out_of_range m)) → n.place ≡ w.place)
+      × (1 ≤ size_of w.sign) × Placed r
+
+  pub placed : (t : Stream) → WellPlaced t → Placed t
+  placed (stop p) h = tt
+  placed (bad p n) h = tt
+  placed (word w r) h = (h.0, λ n e a b m o. h.1 n e, h.2, placed r h.3)
+
 module _ {Q R F T : Type 0} (Spells : List Sign → F → Type 0) (Held : Limit → List Sign → Sign → Type 0) (result : F → R) (at : T → Q) (spelled : T → List Sign)
     (ask : Q → List (Alt Q R)) (from : Source) (g : Tabled Spells Held result at spelled ask) where
   abbrev Origin : Q
@@ -85,13 +100,17 @@ module _ {Q R F T : Type 0} (Spells : List Sign → F → Type 0) (Held : Limit 
 
   -- a text that goes on with a word
   module _ (ws : List Word) (N : T) (w : Word) (r : Stream) (here : Here (signs ws) N)
-      (placed : (n : Ident) → w.sign ≡ s.Name n → n.place ≡ w.place) (counted : (n : Numeral) → w.sign ≡ s.Number n → n.place ≡ w.place) (sized : 1 ≤ size_of w.sign)
+      (named : (n : Ident) → w.sign ≡ s.Name n → n.place ≡ w.place)
+      (counted : (n : Numeral) → w.sign ≡ s.Number n → (a b : Q) (m : Numeral) → among (ask a) (s.Number n) ≡ Some (new b (out_of_range m)) → n.place ≡ w.place) (sized : 1 ≤ size_of w.sign)
       (ih : (M : T) → Here (signs ws ++ w.sign ∷ []) M → Right Spells Held from result (joins ws (word w r)) (run ask from (at M) r)) where
     found : (n : Ident) → w.sign ≡ s.Name n → ◌≡◌ (record { source = from; place = n.place; len = n.name.len }) (span_of from w)
-    found n e = let p = placed n e in let z : size_of w.sign ≡ n.name.len = ap size_of e in cc
+    found n e = let p = named n e in let z : size_of w.sign ≡ n.name.len = ap size_of e in cc
 
-    numbered : (n : Numeral) → w.sign ≡ s.Number n → ◌≡◌ (record { source = from; place = n.place; len = length n.bytes }) (span_of from w)
-    numbered n e = let p = counted n e in let z : size_of w.sign ≡ length n.bytes = ap size_of e in cc
+    numbered : (n : Numeral) → w.sign ≡ s.Number n → (b : Q) (m : Numeral) → among (ask (at N)) w.sign ≡ Some (new b (out_of_range m))
+        → ◌≡◌ (record { source = from; place = n.place; len = length n.bytes }) (span_of from w)
+    numbered n e b m o =
+        let p = counted n e (at N) b m (ap (λ x. among (ask (at N)) x) (sym e) ∙ o) in
+        let z : size_of w.sign ≡ length n.bytes = ap size_of e in cc
 
     no_end : w.sign ≡ s.End → ⊥
     no_end e = let z : size_of w.sign ≡ 0 = ap size_of e in omega arith
@@ -121,11 +140,11 @@ module _ {Q R F T : Type 0} (Spells : List Sign → F → Type 0) (Held : Limit 
     on (Some (new a fine)) e h = going a h.0 (next (signs ws) N w.sign here a h.0 (new a fine) e refl refl)
     on (Some (new a (too_many n))) e h = refusing room a (too_many n) _ e refl (ap fault.TooMany (found n h.2.0)) h.0 h.2.1
     on (Some (new a (repeated n))) e h = refusing once a (repeated n) _ e refl (ap fault.Repeated (found n h.2.0)) h.0 h.2.1
-    on (Some (new a (out_of_range n))) e h = refusing range a (out_of_range n) _ e refl (ap fault.OutOfRange (numbered n h.2.0)) h.0 h.2.1
+    on (Some (new a (out_of_range n))) e h = refusing range a (out_of_range n) _ e refl (ap fault.OutOfRange (numbered n h.2.0 a n e)) h.0 h.2.1
     on (Some (new a crowded)) e h = refusing room a crowded _ e refl refl h.0 h.2
     on (Some (accept c)) e h = absurd (no_end h.0)
 
-  right_from : (t : Stream) (N : T) (ws : List Word) → Here (signs ws) N → WellPlaced t → Right Spells Held from result (joins ws t) (run ask from (at N) t)
+  right_from : (t : Stream) (N : T) (ws : List Word) → Here (signs ws) N → Placed ask t → Right Spells Held from result (joins ws t) (run ask from (at N) t)
   right_from (stop p) N ws here h = on_end ws p N here (among (ask (at N)) s.End) refl (steps N s.End)
   right_from (bad p n) N ws here h = (ws, bad p n, refl, here.clean, refl)
   right_from (word w r) N ws here h =
@@ -134,5 +153,8 @@ module _ {Q R F T : Type 0} (Spells : List Sign → F → Type 0) (Held : Limit 
       (right_from r M (ws ++ w ∷ []) (subst (λ l. Here l M) (sym (map_push (λ v. v.sign) ws w)) k) h.3))
       (among (ask (at N)) w.sign) refl (steps N w.sign)
 
+  pub right_placed : (t : Stream) → Placed ask t → Right Spells Held from result t (run ask from Origin t)
+  right_placed t h = right_from t g.origin [] (record { led = refl; said = g.none; clean = tt }) h
+
   pub right : (t : Stream) → WellPlaced t → Right Spells Held from result t (run ask from Origin t)
-  right t h = right_from t g.origin [] (record { led = refl; said = g.none; clean = tt }) h
+  right t h = right_placed t (placed ask t h)

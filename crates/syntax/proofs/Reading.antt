@@ -2,7 +2,7 @@
 use Rattle.std.proofs.Common.{◌≡◌, ℕ, List, [], IfOk, Ok, Err, Result, sym, ap, ◌∙◌, subst}
 use Rattle.words.specs.declared.fault.Source.TheVariants.{Contracts}
 use Rattle.words.specs.Stream.{Stream, words_of}
-use Rattle.words.proofs.Streams.{stream_well_placed}
+use Rattle.words.proofs.Streams.{stream-proper}
 use Rattle.grammar.specs.declared.fault.GrammarFault.{GrammarFault}
 use Rattle.grammar.specs.Laws.{signs}
 use Rattle.grammar.specs.Table.{run}
@@ -19,7 +19,7 @@ ranged_if ws (Err f) h = tt
 
 module _ (text : List ℕ) (ws : Stream) (r : Result Tree GrammarFault) (e : outcome r ≡ run ask Contracts (start (parts_of [])) ws) (f : ws ≡ words_of text) where
   pub right_of : Right (words_of text) (outcome r)
-  right_of = subst (λ o. Right (words_of text) o) (sym (e ∙ ap (run ask Contracts (start (parts_of []))) f)) (right (words_of text) (stream_well_placed text 0 0))
+  right_of = subst (λ o. Right (words_of text) o) (sym (e ∙ ap (run ask Contracts (start (parts_of []))) f)) (right (words_of text) (stream-proper text 0 0))
 
   pub exact_of : Exact (words_of text) (outcome r)
   exact_of = exact (words_of text) (outcome r) right_of
