@@ -8,7 +8,7 @@ mod tests;
 use contracts::check::check;
 use listing::accepted::list_contracts;
 use listing::shown::OneLine;
-use listing::table::digits;
+use listing::table::decoded;
 use std::alloc::{AllocError, Global};
 use words::fault::Report;
 
@@ -27,7 +27,7 @@ fn main(rt: HostRuntime) -> anyhow::Result<()> {
         if line.as_str().starts_with('#') {
             rt.println(line)?;
         } else {
-            let text = hex::decode(heap, digits(heap, line.as_str())?)?;
+            let text = decoded(heap, line.as_str())?;
             rt.println(answer(heap, text.as_slice())?)?;
         }
     }

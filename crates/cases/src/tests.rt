@@ -1,6 +1,7 @@
 // The worked examples, as tests of the checker.
 use contracts::check::check;
 use listing::refused::explain;
+use listing::table::decoded;
 use std::test::Fail;
 use syntax::tree::Mark;
 use words::fault::Report;
@@ -55,5 +56,12 @@ fn a_refusal_shows_file_line_column_and_word(rt: HostRuntime) -> Result<(), Fail
         shown.as_str(),
         "fault 11 layer 3 text 0 place 51 length 1\ndig.txt:4:22\n  state S { M! -> S; N? -> S; }\n                     ^\nrefused 11: the mark of this move differs from that of the state's first move\n"
     );
+    Ok(())
+}
+
+#[test]
+fn a_line_spells_bytes_by_pairs_of_its_digits(rt: HostRuntime) -> Result<(), Fail> {
+    let bytes = decoded(rt.alloc(), "7b 0AfG9-a6")?;
+    assert_eq!(rt; bytes.as_slice(), [0x7b, 0x0f, 0x9a].as_slice());
     Ok(())
 }

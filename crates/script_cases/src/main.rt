@@ -6,7 +6,7 @@
 use contracts::check::check;
 use listing::accepted::list_contracts;
 use listing::shown::OneLine;
-use listing::table::digits;
+use listing::table::decoded;
 use script_listing::accepted::list_scripts;
 use scripts::check::check as check_scripts;
 use scripts::set::ScriptSet;
@@ -34,11 +34,11 @@ fn answer(heap: Global, text: &[u8], script: &[u8]) -> Result<String, AllocError
 }
 
 // The answer to a line of the input.
-fn answer_line(heap: Global, line: &str) -> anyhow::Result<String> {
+fn answer_line(heap: Global, line: &str) -> Result<String, AllocError> {
     let mut texts = line.split(' ');
-    let text = hex::decode(heap, digits(heap, texts.next().unwrap_or(""))?)?;
-    let script = hex::decode(heap, digits(heap, texts.next().unwrap_or(""))?)?;
-    Ok(answer(heap, text.as_slice(), script.as_slice())?)
+    let text = decoded(heap, texts.next().unwrap_or(""))?;
+    let script = decoded(heap, texts.next().unwrap_or(""))?;
+    answer(heap, text.as_slice(), script.as_slice())
 }
 
 // As in `cases`: one function for both would take the runtime and a closure, and be no shorter.
