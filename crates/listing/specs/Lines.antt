@@ -7,6 +7,7 @@
 --   Explains file text f s    s has the fault line, file, line and column, the line with the word underlined, and some words
 --   shown_byte b               what is printed for b: itself, or a space where it cannot be printed
 --   on_one_line b             what is printed for b where a text is shown on one line: a bar where a line ends
+--   printed_byte e b          the same with e in the place of the bar
 --   is_digit b, digit_value b    b is a hexadecimal digit; the number that it stands for
 --   bytes_of vs               the bytes that numbers below 16 stand for by pairs, the high half first; a last one alone stands for none
 use Rattle.std.specs.Prelude.{◌≡◌, ℕ, ◌+◌, ◌-◌, ◌^◌, ◌<◌, ◌≤◌, min, max, Bool, cond, not, ◌&&◌, ◌⊎◌, List, ◌++◌, map, length, take, drop, replicate, codes, decimal, count_by, ◌==◌, ◌≢◌, nat_le, nat_lt, slice_index, ◌||◌, ◌*◌, [], ◌∷◌}
@@ -30,6 +31,9 @@ shown_byte b = cond (nat_le 32 b && nat_lt b 127) b 32
 
 abbrev pub on_one_line : ℕ → ℕ
 on_one_line b = cond (b == 10) 124 (shown_byte b)
+
+abbrev pub printed_byte : ℕ → ℕ → ℕ
+printed_byte line_end b = cond (b == 10) line_end (shown_byte b)
 
 abbrev pub position_of : List ℕ → ℕ → ℕ → List ℕ
 position_of file line column = file ++ (codes ":" ++ (decimal line ++ (codes ":" ++ decimal column)))

@@ -3,6 +3,7 @@
 
 pub mod accepted;
 pub mod parts;
+mod printed;
 pub mod refused;
 pub mod shown;
 pub mod table;

@@ -1,17 +1,11 @@
 // Bytes, names and whole listings as they are shown.
-ghost use Rattle.std.specs.Prelude.{◌≡◌, map, Some};
+ghost use Rattle.std.specs.Prelude.{map, Some};
 ghost use Rattle.listing.specs.Lines.{on_one_line, shown_byte};
 ghost use Rattle.listing.specs.Listings.{name_text};
 
+use crate::printed::write_printed;
 use std::fmt;
 use words::name::Name;
-
-// A byte as one printed character: itself, or a space where it cannot be printed.
-fn shown(b: u8) -> u8
-    ensures { result ≡ shown_byte b }
-{
-    if b >= b' ' && b <= b'~' { b } else { b' ' }
-}
 
 // Bytes, each as one printed character.
 #[derive(Clone, Copy)]
@@ -21,10 +15,7 @@ impl fmt::Display for ShownBytes<'_> {
     ghost output = { λ s. Some (map shown_byte s.0.now) };
 
     fn fmt<W: fmt::Write>(&self, f: &mut fmt::Formatter<W>) -> fmt::Result {
-        for b in self.0 {
-            f.write_char(char::from(shown(*b)))?;
-        }
-        Ok(())
+        write_printed(f, self.0, b' ')
     }
 }
 
@@ -40,13 +31,6 @@ impl fmt::Display for ShownName {
     }
 }
 
-// A byte of a text that is shown on one line: a bar where a line ends.
-fn joined(b: u8) -> u8
-    ensures { result ≡ on_one_line b }
-{
-    if b == b'\n' { b'|' } else { shown(b) }
-}
-
 /// A text on one line: a bar where each of its lines ends, and its other bytes each as one printed character.
 #[derive(Clone, Copy)]
 pub struct OneLine<'a>(pub &'a str);
@@ -55,9 +39,6 @@ impl fmt::Display for OneLine<'_> {
     ghost output = { λ text. Some (map on_one_line text.0.now) };
 
     fn fmt<W: fmt::Write>(&self, f: &mut fmt::Formatter<W>) -> fmt::Result {
-        for b in self.0.as_bytes() {
-            f.write_char(char::from(joined(*b)))?;
-        }
-        Ok(())
+        write_printed(f, self.0.as_bytes(), b'|')
     }
 }
