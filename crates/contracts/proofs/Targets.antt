@@ -16,7 +16,7 @@ pub row_small : {X : Type 0} {N : ℕ} (r : Row X N) → length (row_items r) �
 row_small r = let few = r.few in simp length-take (omega arith)
 
 module _ (t : Table) (s m u : ℕ) (g : Goes t.moves s m u) where
-  numbered : (s < states t) × (m < messages t) × (u < states t)
+  pub numbered : (s < states t) × (m < messages t) × (u < states t)
   numbered = t.declared (record { from = s; by = m; to = u; goes = g })
 
   pub source_below : s < 16

@@ -13,7 +13,7 @@ fn too_low(t: &Table, d: Mark, rank: &[u8; 16]) -> Option<(usize, usize)>
         ((s u : ℕ) → OneWay t.now d s u → slice_index rank.now u < slice_index rank.now s)
         (λ v. OneWay t.now d v.0 v.1 × (v.0 < 16) × (v.1 < 16) × (slice_index rank.now v.0 ≤ slice_index rank.now v.1)) }
 {
-    find_move(t, Some(d), |s, u| rank[s] <= rank[u])
+    find_move(t, Some(d), |_| true, |s, u| rank[s] <= rank[u])
 }
 
 // For each state the number of moves on the longest one-way path from it.

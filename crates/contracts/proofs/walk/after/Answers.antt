@@ -7,7 +7,7 @@ use Rattle.contracts.proofs.walk.after.Goals as goal
 
 pub loop-u-smaller : goal.loop-u-smaller
 loop-u-smaller c =
-    let k = c.in-Some.ensures.3 in
+    let k = c.in-Some.ensures.4 in
     let outside : get_or c.loop-u.seen c.in-Some.u false ≡ false = search (rules, tests) in
     risen c.loop-u.seen c.in-Some.u 16 c.loop-u.invariant.0 c.in-Some.ensures.2 outside
 

@@ -1,22 +1,7 @@
-use Rattle.std.proofs.Common.{List, length, get_or, ap, sym, refl, subst, arith, below_more}
-use Rattle.contracts.specs.declared.declaration.Message.{Message}
-use Rattle.contracts.specs.Numbers.{quiet}
-use Rattle.contracts.specs.Rules.{Among}
-use Rattle.contracts.proofs.Targets.{message_below, target_below}
+use Rattle.std.proofs.Common.{length, ap, arith}
+use Rattle.contracts.proofs.Targets.{numbered}
 use Rattle.contracts.proofs.walk.find_move.Goals as goal
 
-pub test-requires : goal.test-requires
-test-requires g c = c.requires.callable c.loop-s.s c.in-Some.to (omega arith) (target_below c.args.t.now c.loop-s.s c.loop-m.m c.in-Some.to (sym c.in-Some.ensures))
-
-pub returns-then-test : goal.returns-then-test
-returns-then-test g c = (
-  (c.loop-m.m, subst (λ (xs : List Message). Among c.args.w (get_or xs c.loop-m.m quiet).mark) c.messages-message-items.ensures (c.if-among.ensures.0 refl), sym c.in-Some.ensures),
-  omega arith,
-  target_below c.args.t.now c.loop-s.s c.loop-m.m c.in-Some.to (sym c.in-Some.ensures),
-  c.if-test.ensures,
-)
-
-pub loop-s-preserved : goal.loop-s-preserved
-loop-s-preserved g c =
-    below_more _ _ c.loop-s.invariant
-    (λ u e. c.loop-m.invariant e.0 (omega (arith, ap length c.messages-message-items.ensures, message_below c.args.t.now c.loop-s.s e.0 u e.2)) u e.1 e.2)
+pub returns : goal.returns
+returns g c s u e =
+    c.loop-s.invariant s (omega (arith, ap length c.states-s-end.ensures.names, (numbered c.args.t.now s e.0 u e.2).0)) u e
