@@ -1,5 +1,6 @@
 // Which bytes are reserved words.
 ghost use Rattle.std.specs.Prelude.{◌≡◌};
+ghost use Rattle.std.specs.Str.{bytes_eq};
 ghost use Rattle.words.specs.Signs.{spelling as spelled};
 ghost use Rattle.words.specs.Stream.{reserved as reserved_as};
 
@@ -56,6 +57,14 @@ pub(crate) fn spelling(keyword: Keyword) -> &'static [u8]
     }
 }
 
+/// Whether a reserved word has these bytes.
+// A function of its own: with the comparison within its closure the search takes half again as long.
+fn is_spelled(bytes: &[u8], keyword: Keyword) -> bool
+    ensures { result ≡ bytes_eq bytes.now (spelled keyword) }
+{
+    bytes == spelling(keyword)
+}
+
 /// The reserved word with these bytes, if one has them.
 pub(crate) fn reserved(bytes: &[u8]) -> Option<Keyword>
     ensures { result ≡ reserved_as bytes.now }
@@ -63,5 +72,5 @@ pub(crate) fn reserved(bytes: &[u8]) -> Option<Keyword>
     KEYWORDS
         .iter()
         .copied()
-        .find(|keyword| bytes == spelling(*keyword))
+        .find(|keyword| is_spelled(bytes, *keyword))
 }
