@@ -30,7 +30,7 @@ fn parsed(mut feed: Feed<'_>) -> Result<Tree, GrammarFault>
     requires { source_in feed ≡ sources.Scripts }
     ensures { outcome result ≡ run ask sources.Scripts (start []) (left feed.entry) }
 {
-    Ok(Tree::new(processes(&mut feed)?))
+    processes(&mut feed)
 }
 
 /// The processes of a text, which has at most 4,096 bytes. A refusal stands at the first spot from the left, and has the

@@ -1,5 +1,5 @@
 // Reads a script file by its grammar, from the left, one word at a time.
-ghost use Rattle.std.specs.Prelude.{◌≡◌, ◌+◌, ◌<◌, ◌≤◌, List, [], ◌∷◌, ◌++◌, length, Ok, OnOk};
+ghost use Rattle.std.specs.Prelude.{◌≡◌, ◌+◌, ◌<◌, ◌≤◌, List, [], Ok, OnOk};
 ghost use Rattle.words.specs.declared.name.Ident.{Ident as IdentOf};
 ghost use Rattle.words.specs.Stream.{bytes_in};
 ghost use Rattle.grammar.specs.Feeds.{left};
@@ -7,12 +7,12 @@ ghost use Rattle.grammar.specs.Rows.{row_items};
 ghost use Rattle.grammar.specs.Table.{Goes};
 ghost use Rattle.script_syntax.specs.Machine as q;
 ghost use Rattle.script_syntax.specs.Opcodes.{kinds};
-ghost use Rattle.script_syntax.specs.Trees.{process_of, processes_of, ProcessParts};
+ghost use Rattle.script_syntax.specs.Trees.{parts, processes_of, ProcessParts};
 
 use crate::fetch::statement_or_end;
 use crate::opcode::Opcode;
 use crate::statement::statement;
-use crate::tree::{Process, Statement};
+use crate::tree::{Process, Statement, Tree};
 use grammar::fault::GrammarFault;
 use grammar::feed::Feed;
 use grammar::row::Row;
@@ -29,36 +29,39 @@ fn line(feed: &mut Feed<'_>, opcode: Opcode) -> Result<Statement, GrammarFault>
     Ok(x)
 }
 
-// The instructions of a process, and the `}`.
-fn body(feed: &mut Feed<'_>) -> Result<Row<Statement, 64>, GrammarFault>
-    ensures goes { (ps : List ProcessParts) (n : IdentOf) → Goes (q.reading (q.body (q.begun ps n)) feed.old) result (λ row. q.reading (q.more (q.ended (q.inside ps n (row_items row)))) feed.new) }
+// The instructions of a process, which join those that were read, and the `}`.
+fn body(feed: &mut Feed<'_>, statements: &mut Row<Statement, 64>) -> Result<(), GrammarFault>
+    ensures goes { (ps : List ProcessParts) (n : IdentOf) → Goes (q.reading (q.body (q.inside ps n (row_items statements.old))) feed.old) result (λ _. q.reading (q.more (q.ended (q.inside ps n (row_items statements.new)))) feed.new) }
     ensures left { bytes_in (left feed.new) ≤ bytes_in (left feed.old) }
 {
-    let mut statements = Row::new(Statement::End);
     while let Some(opcode) = statement_or_end(feed, statements.as_slice().len() >= 64)? {
         let x = line(feed, opcode)?;
         let _ = statements.push(x);
     }
-    Ok(statements)
+    Ok(())
 }
 
-// A process after its `process`, which is to stand behind those before it.
+// A process after its `process`, which joins those before it.
 #[tactic(auto, using(crate::proofs::Processes::idents_of))]
-fn process(feed: &mut Feed<'_>, before: &Row<Process, 8>) -> Result<Process, GrammarFault>
-    ensures goes { Goes (q.reading (q.heading (processes_of (row_items before.now))) feed.old) result (λ p. q.reading (q.more (processes_of (row_items before.now) ++ process_of p ∷ [])) feed.new) }
+fn process(feed: &mut Feed<'_>, before: &mut Row<Process, 8>) -> Result<(), GrammarFault>
+    ensures goes { Goes (q.reading (q.heading (processes_of (row_items before.old))) feed.old) result (λ _. q.reading (q.more (processes_of (row_items before.new))) feed.new) }
     ensures spent { OnOk result (bytes_in (left feed.new) < bytes_in (left feed.old)) }
-    ensures room { OnOk result (length (row_items before.now) < 8) }
 {
     let ident = feed.name()?;
     feed.admit_to(ident, before)?;
     feed.mark(Mark::OpenBrace)?;
-    let statements = body(feed)?;
-    Ok(Process { ident, statements })
+    let mut next = Process {
+        ident,
+        statements: Row::new(Statement::End),
+    };
+    body(feed, &mut next.statements)?;
+    let _ = before.push(next);
+    Ok(())
 }
 
 // The processes of a file.
-pub(crate) fn processes(feed: &mut Feed<'_>) -> Result<Row<Process, 8>, GrammarFault>
-    ensures { Goes (q.reading (q.start []) feed.old) result (λ row. Ok (processes_of (row_items row))) }
+pub(crate) fn processes(feed: &mut Feed<'_>) -> Result<Tree, GrammarFault>
+    ensures { Goes (q.reading (q.start []) feed.old) result (λ tree. Ok (parts tree)) }
 {
     feed.keyword(Keyword::Process)?;
     let filler = Process {
@@ -70,10 +73,9 @@ pub(crate) fn processes(feed: &mut Feed<'_>) -> Result<Row<Process, 8>, GrammarF
     };
     let mut all = Row::new(filler);
     loop {
-        let next = process(feed, &all)?;
-        let _ = all.push(next);
+        process(feed, &mut all)?;
         if !feed.keyword_or_end(Keyword::Process)? {
-            return Ok(all);
+            return Ok(Tree::new(all));
         }
     }
 }

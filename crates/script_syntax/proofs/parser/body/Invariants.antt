@@ -9,7 +9,7 @@ use Rattle.script_syntax.proofs.parser.body.Given as goal
 
 abbrev pub invariant-loop-opcode : goal.invariant-loop-opcode
 invariant-loop-opcode l =
-    ((ps : List ProcessParts) (n : Ident) → q.reading (q.body (q.begun ps n)) l.initial.feed ≡ q.reading (q.body (q.inside ps n (row_items l.statements))) l.feed)
+    ((ps : List ProcessParts) (n : Ident) → q.reading (q.body (q.inside ps n (row_items l.initial.statements))) l.initial.feed ≡ q.reading (q.body (q.inside ps n (row_items l.statements))) l.feed)
     × (bytes_in (left l.feed) ≤ bytes_in (left l.initial.feed))
 
 abbrev pub decreases-loop-opcode : goal.decreases-loop-opcode

@@ -6,8 +6,8 @@ use Rattle.script_syntax.specs.Machine as q
 use Rattle.script_syntax.specs.Trees.{processes_of}
 use Rattle.script_syntax.proofs.parser.processes.Given as goal
 
-abbrev pub invariant-loop-next : goal.invariant-loop-next
-invariant-loop-next l = q.reading (q.start []) l.fn.feed ≡ q.reading (q.heading (processes_of (row_items l.all))) l.feed
+abbrev pub invariant-loop-feed : goal.invariant-loop-feed
+invariant-loop-feed l = q.reading (q.start []) l.fn.feed ≡ q.reading (q.heading (processes_of (row_items l.all))) l.feed
 
-abbrev pub decreases-loop-next : goal.decreases-loop-next
-decreases-loop-next l = bytes_in (left l.feed)
+abbrev pub decreases-loop-feed : goal.decreases-loop-feed
+decreases-loop-feed l = bytes_in (left l.feed)
