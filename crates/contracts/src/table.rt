@@ -1,5 +1,5 @@
 // A contract as tables: what it declares, and where each state goes by each message.
-ghost use Rattle.std.specs.Prelude.{◌≡◌, ◌≤◌, length};
+ghost use Rattle.std.specs.Prelude.{◌≡◌, ◌≤◌, [], length, slice_index_or, take};
 ghost use Rattle.grammar.specs.Rows.{row_items};
 ghost use Rattle.contracts.specs.Moves.{Declared, target_in};
 
@@ -21,6 +21,17 @@ impl Table {
         ensures { result ≡ target_in self.now.moves s m }
     {
         *self.moves.get(s)?.get(m)?
+    }
+
+    #[tactic(auto, using(crate::proofs::Targets::row_small))]
+    /// Where the state `s` goes by each message that the contract declares; nothing where there is no such state.
+    pub(crate) fn targets(&self, s: usize) -> &[Option<u8>]
+        ensures { result.now ≡ take (length (row_items self.now.declaration.messages)) (slice_index_or self.now.moves s []) }
+    {
+        match self.moves.get(s) {
+            Some(row) => &row[..self.messages().len()],
+            None => &[],
+        }
     }
 
     /// The messages that the contract declares.

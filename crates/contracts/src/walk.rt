@@ -25,10 +25,11 @@ fn find_target<F: Fn(usize, usize) -> bool>(
         ((u : ℕ) → Along t.now w s u → F.post test.now s u false)
         (λ u. Along t.now w s u × (u < 16) × F.post test.now s u true) }
 {
-    for (m, message) in t.messages().iter().enumerate() {
-        if let Some(to) = t.target(s, m) {
+    let messages = t.messages();
+    for (m, place) in t.targets(s).iter().enumerate() {
+        if let Some(to) = *place {
             let u = to as usize;
-            if among(w, message.mark) && test(s, u) {
+            if among(w, messages[m].mark) && test(s, u) {
                 return Some(u);
             }
         }
