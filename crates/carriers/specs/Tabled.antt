@@ -1,7 +1,8 @@
 -- Boxes told by limits and messages: what holds of them, and what the calls of a carrier do to them.
-use Rattle.std.specs.Prelude.{◌≡◌, ℕ, suc, ◌+◌, ◌-◌, sum, ◌<◌, ◌≤◌, true, false, ◌≢◌, List, [], ◌∷◌, ◌++◌, map, length, get_or, drop, replicate, Some, None, Ok, Err, sum_by, Option, Result, MatchResult, slice_index_or, slice_set, refl}
+use Rattle.std.specs.Prelude.{◌≡◌, ℕ, suc, ◌+◌, ◌-◌, sum, ◌<◌, ◌≤◌, true, false, ◌≢◌, List, [], ◌∷◌, ◌++◌, map, length, get_or, drop, replicate, Some, None, Ok, Err, sum_by, Option, Result, MatchOption, MatchResult, slice_index_or, slice_set, refl}
 use Rattle.std.proofs.Common.{sym, ap, ◌∙◌, subst, inl, inr, arith, zero-add}
 use Rattle.std.specs.List.{AllByRecursion, range_with_len}
+use Rattle.std.specs.Option.{ok_or}
 use Rattle.std.proofs.lemmas.List.{same_lists, get_or-set_same, get_or-set_other, length-set, length-map, get_or-map, get_or_past, get_or_default}
 use Rattle.std.proofs.lemmas.List.Sums.{sum-map, sum_by-cons, sum_by-set}
 use Rattle.std.proofs.lemmas.List.FromFn.{length-map-range_with_len, get_or-map-range_with_len}
@@ -10,9 +11,10 @@ use Rattle.carriers.specs.declared.message.Message.{Message}
 use Rattle.carriers.specs.declared.refusal.CarrierRefusal.{CarrierRefusal}
 use Rattle.carriers.specs.declared.refusal.CarrierRefusal.TheVariants.{OutOfRange, OpenOrClosed, FullOrEmpty, NoSpare}
 use Rattle.carriers.specs.Boxes.{Box, closed, holding, is_open, limit_of, queue_of, box_at, all_limits, Ranged, Fits, Kept}
-use Rattle.carriers.specs.Calls.{Opens, Opened, Put, Taken, Closed, OpenRefused, PutRefused, TakeRefused, CloseRefused}
+use Rattle.carriers.specs.Calls.{Opens, Opened, Put, Takes, Taken, Closed, OpenRefused, PutRefused, TakeRefused, CloseRefused}
+use Rattle.carriers.specs.Counting.{map_counting_same}
 use Rattle.carriers.specs.Limits.{limit_in, allotted, Low, Drawn, Returned, DrawRefused, ClosedRefused}
-use Rattle.carriers.specs.Stores.{all_waiting, Within, Others}
+use Rattle.carriers.specs.Stores.{all_waiting, Within, Room, Others}
 use Rattle.carriers.specs.Tables.{box_from, boxes_from}
 
 none_left : {X : Type 0} (xs : List X) → length xs ≤ 0 → xs ≡ []
@@ -54,6 +56,12 @@ box_at_lem ls q b h = get_or-map-range_with_len (λ k. box_from (slice_index_or 
 pub boxes_none : (q : ℕ → List Message) → boxes_from (replicate 64 None) q ≡ replicate 64 closed
 unfolding boxes_from
 boxes_none q = refl
+
+-- with the same messages in each box the boxes are the same
+boxes_same : (ls : List (Option ℕ)) (q q' : ℕ → List Message) → ((a : ℕ) → a < 64 → q' a ≡ q a) → boxes_from ls q' ≡ boxes_from ls q
+unfolding boxes_from
+boxes_same ls q q' same =
+    map_counting_same (λ b. box_from (slice_index_or ls b None) (q' b)) (λ b. box_from (slice_index_or ls b None) (q b)) 64 (λ a h. ap (box_from (slice_index_or ls a None)) (same a h))
 
 -- one box changed
 pub boxes_set : (ls ls' : List (Option ℕ)) (q q' : ℕ → List Message) (b : ℕ) (x : Box) → b < 64 → box_from (slice_index_or ls' b None) (q' b) ≡ x → ((a : ℕ) → a < 64 → a ≢ b → box_from (slice_index_or ls' a None) (q' a) ≡ box_from (slice_index_or ls a None) (q a)) → boxes_from ls' q' ≡ slice_set (boxes_from ls q) b x
@@ -225,3 +233,19 @@ module _ (ls : List (Option ℕ)) (q : ℕ → List Message) (long : length ls �
 
       pub take_empty : length (q b) ≤ 0 → TakeRefused (boxes_from ls q) b FullOrEmpty
       take_empty none = (numbered, open_at b l numbered was_open, queue_at b numbered ∙ none_left (q b) none)
+
+      pub same_boxes : (q' : ℕ → List Message) → q' b ≡ q b → Others q b q' → boxes_from ls q' ≡ boxes_from ls q
+      same_boxes q' here others = boxes_same ls q q' (λ a h. elim (cases_eq a b) [ inl e ↦ ap q' e ∙ here ∙ sym (ap q e) | inr n ↦ others a h n ])
+
+      -- below the limit a store has room for one message more
+      pub put_over : (pool s : ℕ) → s + allotted ls ≡ pool → (m : Message) → Ranged m → (Room pool q b l m → ⊥) → PutRefused (boxes_from ls q) b m FullOrEmpty
+      put_over pool s whole m ok over =
+          elim (cases_lt (length (q b)) l) [
+            | inl room ↦ absurd (over (ok, room, omega (arith, waiting_below b l numbered was_open room)))
+            | inr full ↦ put_full m ok full
+          ]
+
+      pub take_answered : (r : Option Message) (q' : ℕ → List Message) → MatchOption r ((q b ≡ []) × (q' b ≡ [])) (λ m. q b ≡ m ∷ q' b) → Others q b q' → Takes (boxes_from ls q) b (ok_or r FullOrEmpty) (boxes_from ls q')
+      take_answered None q' none others =
+          (take_empty (omega (arith, ap length none.0)), same_boxes q' (none.1 ∙ sym none.0) others)
+      take_answered (Some m) q' here others = take_done m q' here others

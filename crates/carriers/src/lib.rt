@@ -4,6 +4,7 @@
 pub mod box_number;
 pub mod carrier;
 pub mod copying;
+pub mod limit;
 pub mod limited;
 pub mod limits;
 pub mod message;

@@ -8,6 +8,7 @@ ghost use Rattle.carriers.specs.Tabled.{limited-kept};
 
 use crate::box_number::BoxNumber;
 use crate::carrier::Carrier;
+use crate::limit::Limit;
 use crate::limits::Limits;
 use crate::message::Message;
 use crate::refusal::CarrierRefusal;
@@ -56,21 +57,17 @@ impl<S: Store> Carrier for Limited<S> {
         if !message.is_ranged() {
             return Err(CarrierRefusal::OutOfRange);
         }
-        let limit = self.limits.of_open(b)?;
-        if self.store.count(at) >= limit {
-            return Err(CarrierRefusal::FullOrEmpty);
+        let limit = Limit::new(self.limits.of_open(b)?);
+        match self.store.push(at, limit, message) {
+            Ok(()) => Ok(()),
+            Err(_) => Err(CarrierRefusal::FullOrEmpty),
         }
-        self.store.push(at, message);
-        Ok(())
     }
 
     fn take(&mut self, b: u8) -> Result<Message, CarrierRefusal> {
         let at = BoxNumber::try_from(b)?;
         self.limits.of_open(b)?;
-        if self.store.count(at) == 0 {
-            return Err(CarrierRefusal::FullOrEmpty);
-        }
-        Ok(self.store.pop(at))
+        self.store.pop(at).ok_or(CarrierRefusal::FullOrEmpty)
     }
 
     fn count(&self, b: u8) -> Result<u8, CarrierRefusal> {

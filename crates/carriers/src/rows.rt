@@ -4,6 +4,7 @@ ghost use Rattle.carriers.specs.Waiting.{waiting_in, waiting-ranged};
 ghost use Rattle.std.proofs.Common.{rules};
 
 use crate::box_number::BoxNumber;
+use crate::limit::Limit;
 use crate::message::Message;
 use crate::row::Row;
 use crate::store::Store;
@@ -36,12 +37,21 @@ impl Store for Rows {
         self.rows[b.index()].count()
     }
 
-    fn push(&mut self, b: BoxNumber, message: Message) {
-        self.rows[b.index()].push(message);
+    fn push(&mut self, b: BoxNumber, limit: Limit, message: Message) -> Result<(), Message> {
+        let row = &mut self.rows[b.index()];
+        if row.count() >= u8::from(limit) || !message.is_ranged() {
+            return Err(message);
+        }
+        row.push(message);
+        Ok(())
     }
 
-    fn pop(&mut self, b: BoxNumber) -> Message {
-        self.rows[b.index()].pop()
+    fn pop(&mut self, b: BoxNumber) -> Option<Message> {
+        let row = &mut self.rows[b.index()];
+        if row.count() == 0 {
+            return None;
+        }
+        Some(row.pop())
     }
 
     fn clear(&mut self, b: BoxNumber) {

@@ -1,11 +1,12 @@
 // What keeps the messages of a carrier's boxes.
-ghost use Rattle.std.specs.Prelude.{◌≡◌, ℕ, ◌<◌, ◌≤◌, List, [], ◌∷◌, ◌++◌, length};
+ghost use Rattle.std.specs.Prelude.{◌≡◌, ℕ, ◌<◌, ◌≤◌, List, [], ◌∷◌, ◌++◌, length, MatchOption, MatchResult};
 ghost use Rattle.std.specs.List.{AllByRecursion};
 ghost use Rattle.carriers.specs.declared.message.Message.{Message};
 ghost use Rattle.carriers.specs.Boxes.{Ranged};
-ghost use Rattle.carriers.specs.Stores.{Others, all_waiting};
+ghost use Rattle.carriers.specs.Stores.{Others, Room};
 
 use crate::box_number::BoxNumber;
+use crate::limit::Limit;
 use crate::message::Message;
 
 /// A list of messages for each of 64 boxes, where all lists together have some greatest length. It knows no limits: which
@@ -28,18 +29,22 @@ pub trait Store: Drop {
     fn count(&self, b: BoxNumber) -> u8
         ensures answer { result ≡ length (waiting self.now b.number) };
 
-    /// Appends a message to a box that has fewer than 15, where all boxes together have fewer than POOL.
-    fn push(&mut self, b: BoxNumber, message: Message)
-        requires room { length (waiting self.old b.number) < 15 }
-        requires spare { all_waiting (waiting self.old) < POOL }
-        requires ranged { Ranged message }
-        ensures here { waiting self.new b.number ≡ waiting self.old b.number ++ message ∷ [] }
+    /// Appends a message to a box. Gives it back, with nothing changed, where it is out of its range, the box has as many
+    /// messages as the limit says, or all boxes together have POOL.
+    fn push(&mut self, b: BoxNumber, limit: Limit, message: Message) -> Result<(), Message>
+        ensures answer { MatchResult result
+            (λ _. Room POOL (waiting self.old) b.number limit.number message)
+            (λ m. (m ≡ message) × (Room POOL (waiting self.old) b.number limit.number message → ⊥)) }
+        ensures here { MatchResult result
+            (λ _. waiting self.new b.number ≡ waiting self.old b.number ++ message ∷ [])
+            (λ _. waiting self.new b.number ≡ waiting self.old b.number) }
         ensures others { Others (waiting self.old) b.number (waiting self.new) };
 
-    /// Removes and answers the first message of a box that has one.
-    fn pop(&mut self, b: BoxNumber) -> Message
-        requires some { 0 < length (waiting self.old b.number) }
-        ensures here { waiting self.old b.number ≡ result ∷ waiting self.new b.number }
+    /// Removes and answers the first message of a box; none, with nothing changed, where it has none.
+    fn pop(&mut self, b: BoxNumber) -> Option<Message>
+        ensures here { MatchOption result
+            ((waiting self.old b.number ≡ []) × (waiting self.new b.number ≡ []))
+            (λ m. waiting self.old b.number ≡ m ∷ waiting self.new b.number) }
         ensures others { Others (waiting self.old) b.number (waiting self.new) };
 
     /// Removes all messages of a box.

@@ -96,7 +96,7 @@ module _ (l : Links) (f t n y : ℕ) (w : Chain) (lf : f < 65) (lt : t < 65) (ne
   chains = l.tables.chains
 
   abbrev new : Tables
-  new = record { next = next'; chains = set (set chains t o) f r }
+  new = record { next = next'; chains = set (set chains f r) t o }
 
   abbrev N' : ℕ → ℕ → ℕ
   N' a k = cell new a k
@@ -294,16 +294,16 @@ module _ (l : Links) (f t n y : ℕ) (w : Chain) (lf : f < 65) (lt : t < 65) (ne
 
   total_new : sum (counts new) ≡ 128
   total_new =
-      let i₁ : t < length chains = omega (arith, l.sizes.1) in
-      let i₂ : f < length (set chains t o) = omega (arith, l.sizes.1, length-set chains t o) in
+      let i₁ : f < length chains = omega (arith, l.sizes.1) in
+      let i₂ : t < length (set chains f r) = omega (arith, l.sizes.1, length-set chains f r) in
       omega (
         arith,
         l.total,
         sum-map count_in chains,
         sum-map count_in new.chains,
-        sum_by-set count_in chains t o None i₁,
-        sum_by-set count_in (set chains t o) f r None i₂,
-        ap count_in (get_or-set_other chains t f o None ne),
+        sum_by-set count_in chains f r None i₁,
+        sum_by-set count_in (set chains f r) t o None i₂,
+        ap count_in (get_or-set_other chains f t r None ne'),
         ap count_in is,
         size_from,
         count_rest,

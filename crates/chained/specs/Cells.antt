@@ -55,10 +55,10 @@ waiting-same ms ms' c c' a n same =
     ap (λ i. map (λ k. get_or ms' (cell c'.tables a k) blank) (range_with_len 0 i)) n
     ∙ map_counting_same (λ k. get_or ms' (cell c'.tables a k) blank) (λ k. get_or ms (cell c.tables a k) blank) (count_of c.tables a) same
 
--- where not all cells are in use, one is free
-pub free_cell : (ms : List Message) (c : Links) → all_waiting (waiting ms c) < 128 → 0 < count_of c.tables 64
+-- the cells that are not free are those of the messages
+pub free_cells : (ms : List Message) (c : Links) → all_waiting (waiting ms c) + count_of c.tables 64 ≡ 128
 unfolding all_waiting
-free_cell ms c below =
+free_cells ms c =
     let ns = counts c.tables in
     let size : length ns ≡ 65 = length-map c.tables.chains count_in ∙ c.sizes.1 in
     let i : 64 < length ns = omega arith in
@@ -66,7 +66,10 @@ free_cell ms c below =
     let all : take 65 ns ≡ ns = take_all 65 ns (omega arith) in
     let boxes : take 64 ns ≡ map (λ b. length (waiting ms c b)) (range_with_len 0 64) =
     fill_by_all (λ b. length (waiting ms c b)) (take 64 ns) 64 0 long (λ k h. get_or-take 64 ns k 0 h ∙ sym (length-waiting ms c k)) in
-    omega (arith, below, c.total, sum_by_more (λ z. z) ns 64 0 i, ap sum all, ap sum boxes)
+    omega (arith, c.total, sum_by_more (λ z. z) ns 64 0 i, ap sum all, ap sum boxes)
+
+pub free_cell : (ms : List Message) (c : Links) → all_waiting (waiting ms c) < 128 → 0 < count_of c.tables 64
+free_cell ms c below = omega (arith, below, free_cells ms c)
 
 -- a free cell x, with the message m in it, behind those of box b
 module _ (ms : List Message) (c c' : Links) (b x : ℕ) (m : Message) (numbered : b < 64) (size : length ms ≡ 128) (some : 0 < count_of c.tables 64)

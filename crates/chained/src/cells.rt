@@ -6,6 +6,7 @@ ghost use Rattle.std.proofs.Common.{rules};
 
 use crate::links::{FREE, Links};
 use carriers::box_number::BoxNumber;
+use carriers::limit::Limit;
 use carriers::message::Message;
 use carriers::store::Store;
 
@@ -46,14 +47,21 @@ impl Store for Cells {
         self.links.count(u8::from(b))
     }
 
-    fn push(&mut self, b: BoxNumber, message: Message) {
-        let cell = self.links.shift(FREE, u8::from(b));
+    fn push(&mut self, b: BoxNumber, limit: Limit, message: Message) -> Result<(), Message> {
+        let chain = u8::from(b);
+        if self.links.count(chain) >= u8::from(limit) || !message.is_ranged() {
+            return Err(message);
+        }
+        let Some(cell) = self.links.shift(FREE, chain) else {
+            return Err(message);
+        };
         self.messages[cell as usize] = message;
+        Ok(())
     }
 
-    fn pop(&mut self, b: BoxNumber) -> Message {
-        let cell = self.links.shift(u8::from(b), FREE);
-        self.messages[cell as usize]
+    fn pop(&mut self, b: BoxNumber) -> Option<Message> {
+        let cell = self.links.shift(u8::from(b), FREE)?;
+        Some(self.messages[cell as usize])
     }
 
     fn clear(&mut self, b: BoxNumber) {

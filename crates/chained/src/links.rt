@@ -1,5 +1,5 @@
 // Cells linked into chains.
-ghost use Rattle.std.specs.Prelude.{◌≡◌, ℕ, ◌+◌, ◌-◌, ◌<◌, ◌≤◌, length, sum, ◌≢◌};
+ghost use Rattle.std.specs.Prelude.{◌≡◌, ℕ, ◌+◌, ◌-◌, ◌<◌, ◌≤◌, length, sum, ◌≢◌, MatchOption};
 ghost use Rattle.std.specs.Option.{ForSome};
 ghost use Rattle.chained.specs.Chains.{count_in, tail_in, counts, count_of, cell, Below, Apart, Ends, Linked, Moved, Cleared};
 
@@ -22,18 +22,19 @@ pub(crate) struct Chain {
 
 impl Chain {
     /// Links the chain behind `front`, or puts it there where that has no cells.
-    fn link(self, front: &mut Option<Chain>, next: &mut [u8; 128])
+    fn link(&self, front: &mut Option<Chain>, next: &mut [u8; 128])
         requires end { tail_in front.old < 128 }
-        requires fits { count_in front.old + self.count ≤ 128 }
-        ensures { Linked front.old self next.old front.new next.new }
+        requires fits { count_in front.old + self.now.count ≤ 128 }
+        ensures { Linked front.old self.now next.old front.new next.new }
     {
         match front {
             Some(chain) => {
-                next[chain.tail as usize] = self.head;
+                let end = chain.tail;
                 chain.tail = self.tail;
                 chain.count += self.count;
+                next[end as usize] = self.head;
             }
-            None => *front = Some(self),
+            None => *front = Some(*self),
         }
     }
 
@@ -103,34 +104,41 @@ impl Links {
         self.tables.chains[a as usize].map_or(0, |chain| chain.count)
     }
 
-    /// Takes the first n cells of a chain, of which `last` is the last, to the end of another.
-    fn relink(&mut self, from: u8, to: u8, n: u8, last: u8)
+    /// Takes the first cells of a chain, which are those of `part`, to the end of another.
+    fn relink(&mut self, from: u8, to: u8, part: &Chain)
         requires numbered { (from < 65) × ((to < 65) × ((from ≢ to))) }
-        requires some { (0 < n) × (n ≤ count_of self.old.tables from) }
-        requires last { last ≡ cell self.old.tables from (n - 1) }
-        ensures moved { Moved self.old.tables from to n self.new.tables }
+        requires some { (0 < part.now.count) × (part.now.count ≤ count_of self.old.tables from) }
+        requires first { part.now.head ≡ cell self.old.tables from 0 }
+        requires last { part.now.tail ≡ cell self.old.tables from (part.now.count - 1) }
+        ensures moved { Moved self.old.tables from to part.now.count self.new.tables }
     {
-        let whole = self.tables.chains[from as usize].unwrap();
-        let part = Chain {
-            head: whole.head,
-            tail: last,
-            count: n,
-        };
-        let after = self.tables.next[last as usize];
+        let after = self.tables.next[part.tail as usize];
+        Chain::cut(&mut self.tables.chains[from as usize], part.count, after);
         part.link(&mut self.tables.chains[to as usize], &mut self.tables.next);
-        Chain::cut(&mut self.tables.chains[from as usize], n, after);
     }
 
-    /// Takes the first cell of a chain to the end of another, and answers it.
-    pub(crate) fn shift(&mut self, from: u8, to: u8) -> u8
+    /// Takes the first cell of a chain to the end of another, and answers it; none, with nothing changed, where the chain
+    /// has no cells.
+    pub(crate) fn shift(&mut self, from: u8, to: u8) -> Option<u8>
         requires numbered { (from < 65) × ((to < 65) × ((from ≢ to))) }
-        requires some { 0 < count_of self.old.tables from }
-        ensures first { result ≡ cell self.old.tables from 0 }
-        ensures moved { Moved self.old.tables from to 1 self.new.tables }
+        ensures first { MatchOption result
+            (count_of self.old.tables from ≡ 0)
+            (λ x. (0 < count_of self.old.tables from) × (x ≡ cell self.old.tables from 0)) }
+        ensures moved { MatchOption result
+            (self.new.tables ≡ self.old.tables)
+            (λ _. Moved self.old.tables from to 1 self.new.tables) }
     {
-        let first = self.tables.chains[from as usize].unwrap().head;
-        self.relink(from, to, 1, first);
-        first
+        let Some(chain) = self.tables.chains[from as usize] else {
+            return None;
+        };
+        let first = chain.head;
+        let part = Chain {
+            head: first,
+            tail: first,
+            count: 1,
+        };
+        self.relink(from, to, &part);
+        Some(first)
     }
 
     /// Gives all cells of a box's chain back to the free ones.
@@ -139,7 +147,7 @@ impl Links {
         ensures cleared { Cleared self.old.tables b self.new.tables }
     {
         if let Some(chain) = self.tables.chains[b as usize] {
-            self.relink(b, FREE, chain.count, chain.tail);
+            self.relink(b, FREE, &chain);
         }
     }
 }

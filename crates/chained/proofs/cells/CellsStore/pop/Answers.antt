@@ -1,17 +1,17 @@
-use Rattle.std.proofs.Common.{◌<◌, sym, ap, arith}
-use Rattle.chained.specs.Chains.{count_of}
-use Rattle.chained.specs.Cells.{length-waiting, take_here, take_others}
+use Rattle.std.proofs.Common.{◌<◌, sym, arith}
+use Rattle.chained.specs.Cells.{take_here, take_others}
 use Rattle.chained.proofs.cells.CellsStore.pop.Goals as goal
 
 pub returns : goal.returns
 returns c =
     let s = c.args.self.now in
     let b = c.from.result in
-    let e = c.from.ensures in
-    let low : b < 64 = omega (arith, e, c.args.b.below) in
-    let some : 0 < count_of s.links.tables b = omega (arith, c.requires.some, length-waiting s.messages s.links c.args.b.number, ap (count_of s.links.tables) e) in
-    rw (sym e)
+    let x = c.in_ok-cell.cell in
+    let low : b < 64 = omega (arith, c.from.ensures, c.args.b.below) in
+    let first = c.in_ok-cell.ensures.first in
+    let moved = c.in_ok-cell.ensures.moved in
+    rw (sym c.from.ensures)
     (record {
-      here = take_here s.messages s.links c.shift-cell.new.self b c.shift-cell.result low some c.shift-cell.ensures.first c.shift-cell.ensures.moved;
-      others = take_others s.messages s.links c.shift-cell.new.self b c.shift-cell.result low some c.shift-cell.ensures.first c.shift-cell.ensures.moved;
+      here = take_here s.messages s.links c.shift.new.self b x low first.0 first.1 moved;
+      others = take_others s.messages s.links c.shift.new.self b x low first.0 first.1 moved;
     })
