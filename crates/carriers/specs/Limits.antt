@@ -2,11 +2,12 @@
 --   limit_in o                        the limit, 0 where there is none
 --   allotted ls                      all limits together
 --   Low ls                           no limit is above 15
+--   Few ls ns                        no box has more messages than its limit, where ns has their numbers
 --   Drawn ls s b l ls' s'            box b had no limit and has l now, which was drawn from the spare s
 --   Returned ls s b ls' s'           box b had a limit, which is back in the spare
 --   DrawRefused ls s b l e           drawing is refused by e: its reason holds, and none that is tried before it
 --   ClosedRefused b o e              what asks for an open box is refused by e, where box b has the limit o
-use Rattle.std.specs.Prelude.{◌≡◌, ℕ, ◌+◌, ◌<◌, ◌≤◌, List, get_or, Some, None, sum_by, Option, slice_index_or, slice_set}
+use Rattle.std.specs.Prelude.{◌≡◌, ℕ, ◌+◌, ◌<◌, ◌≤◌, List, get_or, Some, None, sum_by, Option, slice_index, slice_index_or, slice_set}
 use Rattle.carriers.specs.declared.refusal.CarrierRefusal.{CarrierRefusal}
 use Rattle.carriers.specs.declared.refusal.CarrierRefusal.TheVariants.{OutOfRange, OpenOrClosed, FullOrEmpty, NoSpare}
 
@@ -19,6 +20,9 @@ allotted ls = sum_by limit_in ls
 
 abbrev pub Low : List (Option ℕ) → Type 0
 Low ls = (b : ℕ) → limit_in (slice_index_or ls b None) ≤ 15
+
+abbrev pub Few : List (Option ℕ) → List ℕ → Type 0
+Few ls ns = (b : ℕ) → b < 64 → slice_index ns b ≤ limit_in (slice_index_or ls b None)
 
 pub record Drawn (ls : List (Option ℕ)) (s b l : ℕ) (ls' : List (Option ℕ)) (s' : ℕ) : Type 0 where
   pub numbered : b < 64

@@ -108,8 +108,8 @@ module _ (ls : List (Option ℕ)) (q : ℕ → List Message) (long : length ls �
       get_or-map limit_of (boxes_from ls q) k closed d inside ∙ limit_at k low ∙ sym (get_or-map limit_in ls k None d inside')))
       ∙ sum-map limit_in ls
 
-  pub limited-kept : (pool s : ℕ) → Low ls → ((b : ℕ) → AllByRecursion Ranged (q b)) → s + allotted ls ≡ pool → Kept pool (boxes_from ls q)
-  limited-kept pool s low ok whole =
+  pub boxes_kept : (pool : ℕ) → Low ls → ((b : ℕ) → AllByRecursion Ranged (q b)) → allotted ls ≤ pool → Kept pool (boxes_from ls q)
+  boxes_kept pool low ok within =
       record {
         count = length_boxes ls q;
         each = λ b. elim (cases_lt b 64) [
@@ -118,6 +118,9 @@ module _ (ls : List (Option ℕ)) (q : ℕ → List Message) (long : length ls �
         ];
         together = omega (arith, limits_together);
       }
+
+  pub limited-kept : (pool s : ℕ) → Low ls → ((b : ℕ) → AllByRecursion Ranged (q b)) → s + allotted ls ≡ pool → Kept pool (boxes_from ls q)
+  limited-kept pool s low ok whole = boxes_kept pool low ok (omega arith)
 
   -- where an open box has room, not all limits are used up
   pub waiting_below : (b l : ℕ) → b < 64 → slice_index_or ls b None ≡ Some l → length (q b) < l → all_waiting q < allotted ls
