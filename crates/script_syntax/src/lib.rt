@@ -1,15 +1,12 @@
 // Script files from words to a tree, whose names and distances keep their places.
 #![tactic(auto)]
 
-ghost use Rattle.std.specs.Prelude.{◌≡◌, ◌<◌, ◌≤◌, [], length, IfOk, Err};
+ghost use Rattle.std.specs.Prelude.{◌≡◌, ◌<◌, ◌≤◌, length, IfOk, Err};
 ghost use Rattle.words.specs.declared.fault.Source.TheVariants as sources;
 ghost use Rattle.words.specs.Reading.{too_large};
 ghost use Rattle.words.specs.Stream.{words_of};
 ghost use Rattle.grammar.specs.declared.fault.GrammarFault.TheVariants as faults;
-ghost use Rattle.grammar.specs.Feeds.{left, source_in};
-ghost use Rattle.grammar.specs.Table.{run};
 ghost use Rattle.script_syntax.specs.Laws.{Exact, Right, outcome};
-ghost use Rattle.script_syntax.specs.Machine.{ask, start};
 ghost use Rattle.script_syntax.specs.Trees.{Distinct, Ranged, parts};
 
 mod fetch;
@@ -21,17 +18,9 @@ pub mod tree;
 
 use grammar::fault::GrammarFault;
 use grammar::feed::Feed;
-use parser::processes;
+use parser::file;
 use tree::Tree;
 use words::fault::Source;
-
-// The file whose words are left.
-fn parsed(mut feed: Feed<'_>) -> Result<Tree, GrammarFault>
-    requires { source_in feed ≡ sources.Scripts }
-    ensures { outcome result ≡ run ask sources.Scripts (start []) (left feed.entry) }
-{
-    processes(&mut feed)
-}
 
 /// The processes of a text, which has at most 4,096 bytes. A refusal stands at the first spot from the left, and has the
 /// lowest number that holds there: 2 where the text is too large, 3 where no word stands, 4 where a word is not allowed,
@@ -45,5 +34,5 @@ pub fn read_scripts(text: &[u8]) -> Result<Tree, GrammarFault>
     ensures distinct { IfOk result (λ tree. Distinct (parts tree)) }
 {
     let feed = Feed::open(Source::Scripts, text)?;
-    parsed(feed)
+    file(feed)
 }

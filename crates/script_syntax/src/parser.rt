@@ -1,13 +1,15 @@
 // Reads a script file by its grammar, from the left, one word at a time.
-ghost use Rattle.std.specs.Prelude.{◌≡◌, ◌+◌, ◌<◌, ◌≤◌, List, [], Ok, OnOk};
+ghost use Rattle.std.specs.Prelude.{◌≡◌, ◌+◌, ◌<◌, ◌≤◌, List, [], OnOk};
+ghost use Rattle.words.specs.declared.fault.Source.TheVariants as sources;
 ghost use Rattle.words.specs.declared.name.Ident.{Ident as IdentOf};
 ghost use Rattle.words.specs.Stream.{bytes_in};
-ghost use Rattle.grammar.specs.Feeds.{left};
+ghost use Rattle.grammar.specs.Feeds.{left, source_in};
 ghost use Rattle.grammar.specs.Rows.{row_items};
-ghost use Rattle.grammar.specs.Table.{Goes};
+ghost use Rattle.grammar.specs.Table.{Goes, run};
+ghost use Rattle.script_syntax.specs.Laws.{outcome};
 ghost use Rattle.script_syntax.specs.Machine as q;
 ghost use Rattle.script_syntax.specs.Opcodes.{kinds};
-ghost use Rattle.script_syntax.specs.Trees.{parts, processes_of, ProcessParts};
+ghost use Rattle.script_syntax.specs.Trees.{processes_of, ProcessParts};
 
 use crate::fetch::statement_or_end;
 use crate::opcode::Opcode;
@@ -59,9 +61,10 @@ fn process(feed: &mut Feed<'_>, before: &mut Row<Process, 8>) -> Result<(), Gram
     Ok(())
 }
 
-// The processes of a file.
-pub(crate) fn processes(feed: &mut Feed<'_>) -> Result<Tree, GrammarFault>
-    ensures { Goes (q.reading (q.start []) feed.old) result (λ tree. Ok (parts tree)) }
+/// The file whose words are left.
+pub(crate) fn file(mut feed: Feed<'_>) -> Result<Tree, GrammarFault>
+    requires { source_in feed ≡ sources.Scripts }
+    ensures { outcome result ≡ run q.ask sources.Scripts (q.start []) (left feed.entry) }
 {
     feed.keyword(Keyword::Process)?;
     let filler = Process {
@@ -73,7 +76,7 @@ pub(crate) fn processes(feed: &mut Feed<'_>) -> Result<Tree, GrammarFault>
     };
     let mut all = Row::new(filler);
     loop {
-        process(feed, &mut all)?;
+        process(&mut feed, &mut all)?;
         if !feed.keyword_or_end(Keyword::Process)? {
             return Ok(Tree::new(all));
         }
