@@ -91,3 +91,9 @@ fn the_same_boxes_leave_832_to_a_copying_carrier(rt: HostRuntime) {
     assert_eq!(rt; carrier.spare(), 832);
     empty(&rt, &mut carrier);
 }
+
+#[test]
+fn a_full_carrier_and_a_full_box_refuse_by_33_and_32(rt: HostRuntime) {
+    assert_eq!(rt; u8::from(CarrierRefusal::NoSpare), 33);
+    assert_eq!(rt; u8::from(CarrierRefusal::FullOrEmpty), 32);
+}
