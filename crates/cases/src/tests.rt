@@ -1,7 +1,7 @@
 // The worked examples, as tests of the checker.
 use contracts::check::check;
 use listing::refused::explain;
-use listing::table::decoded;
+use listing::table::{decoded, digits};
 use std::test::Fail;
 use syntax::tree::Mark;
 use words::fault::Report;
@@ -63,5 +63,12 @@ fn a_refusal_shows_file_line_column_and_word(rt: HostRuntime) -> Result<(), Fail
 fn a_line_spells_bytes_by_pairs_of_its_digits(rt: HostRuntime) -> Result<(), Fail> {
     let bytes = decoded(rt.alloc(), "7b 0AfG9-a6")?;
     assert_eq!(rt; bytes.as_slice(), [0x7b, 0x0f, 0x9a].as_slice());
+    Ok(())
+}
+
+#[test]
+fn the_digits_of_a_line_stand_in_pairs(rt: HostRuntime) -> Result<(), Fail> {
+    let found = digits(rt.alloc(), "7b 0AfG9-a6")?;
+    assert_eq!(rt; found.as_slice(), b"7b0f9a".as_slice());
     Ok(())
 }

@@ -9,8 +9,9 @@
 --   on_one_line b             what is printed for b where a text is shown on one line: a bar where a line ends
 --   printed_byte e b          the same with e in the place of the bar
 --   is_digit b, digit_value b    b is a hexadecimal digit; the number that it stands for
+--   pairs_of ds               the digits that have a second
 --   bytes_of vs               the bytes that numbers below 16 stand for by pairs, the high half first; a last one alone stands for none
-use Rattle.std.specs.Prelude.{◌≡◌, ℕ, ◌+◌, ◌-◌, ◌^◌, ◌<◌, ◌≤◌, min, max, Bool, cond, not, ◌&&◌, ◌⊎◌, List, ◌++◌, map, length, take, drop, replicate, codes, decimal, count_by, ◌==◌, ◌≢◌, nat_le, nat_lt, slice_index, ◌||◌, ◌*◌, [], ◌∷◌}
+use Rattle.std.specs.Prelude.{◌≡◌, ℕ, ◌+◌, ◌-◌, ◌^◌, ◌<◌, ◌≤◌, min, max, Bool, cond, not, ◌&&◌, ◌⊎◌, List, ◌++◌, map, length, take, drop, replicate, codes, decimal, count_by, ◌==◌, ◌≢◌, nat_le, nat_lt, slice_index, ◌||◌, ◌*◌, ◌/◌, [], ◌∷◌}
 use Rattle.std.specs.List.{prefix_len}
 use Rattle.words.specs.declared.fault.Report.{Report}
 use Rattle.words.specs.Faults.{report_text}
@@ -58,6 +59,9 @@ pub record Explains (file text : List ℕ) (f : Report) (s : List ℕ) : Type 0 
 
 abbrev pub is_digit : ℕ → Bool
 is_digit b = (nat_le 48 b && nat_le b 57) || (nat_le 97 b && nat_le b 102)
+
+abbrev pub pairs_of : List ℕ → List ℕ
+pairs_of ds = take (length ds / 2 * 2) ds
 
 abbrev pub digit_value : ℕ → ℕ
 digit_value b = cond (nat_le 97 b) (b - 97 + 10) (b - 48)

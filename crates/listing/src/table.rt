@@ -1,6 +1,6 @@
 // Lines of tables, in which a text stands by its bytes, two hexadecimal digits each.
 ghost use Rattle.std.specs.Prelude.{◌≡◌, ◌<◌, cond, map, filter, IfOk, IfSome};
-ghost use Rattle.listing.specs.Lines.{bytes_of, digit_value, is_digit};
+ghost use Rattle.listing.specs.Lines.{bytes_of, digit_value, is_digit, pairs_of};
 
 use std::alloc::{AllocError, Global};
 
@@ -35,4 +35,18 @@ pub fn decoded(heap: Global, line: &str) -> Result<Vec<u8>, AllocError>
         }
     }
     Ok(bytes)
+}
+
+/// The hexadecimal digits of a line. Other bytes are passed over, and so is a last digit without a second.
+pub fn digits(heap: Global, line: &str) -> Result<Vec<u8>, AllocError>
+    ensures { IfOk result (λ v. v.items ≡ pairs_of (filter is_digit line.now)) }
+{
+    let mut digits = line
+        .as_bytes()
+        .iter()
+        .copied()
+        .filter(|b| digit(*b).is_some())
+        .collect::<Vec<u8>>(heap)?;
+    digits.truncate(digits.len() / 2 * 2);
+    Ok(digits)
 }
