@@ -58,7 +58,7 @@ impl<S: Store> Carrier for Limited<S> {
             return Err(CarrierRefusal::OutOfRange);
         }
         let limit = Limit::new(self.limits.of_open(b)?);
-        match self.store.push(at, limit, message) {
+        match self.store.try_push(at, limit, message) {
             Ok(()) => Ok(()),
             Err(_) => Err(CarrierRefusal::FullOrEmpty),
         }
@@ -67,7 +67,7 @@ impl<S: Store> Carrier for Limited<S> {
     fn take(&mut self, b: u8) -> Result<Message, CarrierRefusal> {
         let at = BoxNumber::try_from(b)?;
         self.limits.of_open(b)?;
-        self.store.pop(at).ok_or(CarrierRefusal::FullOrEmpty)
+        self.store.try_pop(at).ok_or(CarrierRefusal::FullOrEmpty)
     }
 
     fn count(&self, b: u8) -> Result<u8, CarrierRefusal> {

@@ -37,7 +37,7 @@ impl Store for Rows {
         self.rows[b.index()].count()
     }
 
-    fn push(&mut self, b: BoxNumber, limit: Limit, message: Message) -> Result<(), Message> {
+    fn try_push(&mut self, b: BoxNumber, limit: Limit, message: Message) -> Result<(), Message> {
         let row = &mut self.rows[b.index()];
         if row.count() >= u8::from(limit) || !message.is_ranged() {
             return Err(message);
@@ -46,7 +46,7 @@ impl Store for Rows {
         Ok(())
     }
 
-    fn pop(&mut self, b: BoxNumber) -> Option<Message> {
+    fn try_pop(&mut self, b: BoxNumber) -> Option<Message> {
         let row = &mut self.rows[b.index()];
         if row.count() == 0 {
             return None;

@@ -31,7 +31,7 @@ pub trait Store: Drop {
 
     /// Appends a message to a box. Gives it back, with nothing changed, where it is out of its range, the box has as many
     /// messages as the limit says, or all boxes together have POOL.
-    fn push(&mut self, b: BoxNumber, limit: Limit, message: Message) -> Result<(), Message>
+    fn try_push(&mut self, b: BoxNumber, limit: Limit, message: Message) -> Result<(), Message>
         ensures answer { MatchResult result
             (λ _. Room POOL (waiting self.old) b.number limit.number message)
             (λ m. (m ≡ message) × (Room POOL (waiting self.old) b.number limit.number message → ⊥)) }
@@ -41,11 +41,37 @@ pub trait Store: Drop {
         ensures others { Others (waiting self.old) b.number (waiting self.new) };
 
     /// Removes and answers the first message of a box; none, with nothing changed, where it has none.
-    fn pop(&mut self, b: BoxNumber) -> Option<Message>
+    fn try_pop(&mut self, b: BoxNumber) -> Option<Message>
         ensures here { MatchOption result
             ((waiting self.old b.number ≡ []) × (waiting self.new b.number ≡ []))
             (λ m. waiting self.old b.number ≡ m ∷ waiting self.new b.number) }
         ensures others { Others (waiting self.old) b.number (waiting self.new) };
+
+    /// Appends a message that is in its range to a box that has fewer than 15, where all boxes together have fewer than POOL.
+    /// Else nothing changes, and the message is not kept: where that may be, `try_push` tells.
+    fn push(&mut self, b: BoxNumber, message: Message)
+        ensures here { Room POOL (waiting self.old) b.number 15 message →
+            waiting self.new b.number ≡ waiting self.old b.number ++ message ∷ [] }
+        ensures without_room { (Room POOL (waiting self.old) b.number 15 message → ⊥) →
+            waiting self.new b.number ≡ waiting self.old b.number }
+        ensures others { Others (waiting self.old) b.number (waiting self.new) }
+    {
+        let _ = self.try_push(b, Limit::new(15), message);
+    }
+
+    /// Removes and answers the first message of a box that has one. Of a box that has none nothing changes, and the answer is
+    /// a message of number 0 without a payload: where that may be, `try_pop` tells.
+    fn pop(&mut self, b: BoxNumber) -> Message
+        ensures here { 0 < length (waiting self.old b.number) → waiting self.old b.number ≡ result ∷ waiting self.new b.number }
+        ensures empty { waiting self.old b.number ≡ [] →
+            (waiting self.new b.number ≡ []) × (result.number ≡ 0) × (result.payload ≡ None) }
+        ensures others { Others (waiting self.old) b.number (waiting self.new) }
+    {
+        self.try_pop(b).unwrap_or(Message {
+            number: 0,
+            payload: None,
+        })
+    }
 
     /// Removes all messages of a box.
     fn clear(&mut self, b: BoxNumber)

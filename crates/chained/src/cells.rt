@@ -47,7 +47,7 @@ impl Store for Cells {
         self.links.count(u8::from(b))
     }
 
-    fn push(&mut self, b: BoxNumber, limit: Limit, message: Message) -> Result<(), Message> {
+    fn try_push(&mut self, b: BoxNumber, limit: Limit, message: Message) -> Result<(), Message> {
         let chain = u8::from(b);
         if self.links.count(chain) >= u8::from(limit) || !message.is_ranged() {
             return Err(message);
@@ -59,7 +59,7 @@ impl Store for Cells {
         Ok(())
     }
 
-    fn pop(&mut self, b: BoxNumber) -> Option<Message> {
+    fn try_pop(&mut self, b: BoxNumber) -> Option<Message> {
         let cell = self.links.shift(u8::from(b), FREE)?;
         Some(self.messages[cell as usize])
     }

@@ -2,10 +2,13 @@
 ghost use Rattle.std.specs.Prelude.{◌≡◌, ◌+◌, ◌<◌, ◌≤◌, false, Ok};
 ghost use Rattle.carriers.specs.Boxes.{box_at, is_open, all_limits, Ranged};
 
+use carriers::box_number::BoxNumber;
 use carriers::carrier::Carrier;
 use carriers::copying::Copying;
+use carriers::limited::Limited;
 use carriers::message::Message;
 use carriers::refusal::CarrierRefusal;
+use carriers::store::Store;
 use chained::chained::Chained;
 use std::process::Abort;
 
@@ -62,6 +65,25 @@ fn empty<C: Carrier>(rt: &impl Abort, carrier: &mut C) {
     }
 }
 
+// A new store of the kind that the carrier has takes 15 messages in a box and gives them back in their order. A message out of
+// its range changes nothing, nor does a 16th, and of the empty box the answer is the message of number 0 without a payload.
+fn store_and_return<S: Store>(rt: &impl Abort, _carrier: &Limited<S>, b: BoxNumber) {
+    let mut store = S::new();
+    store.push(b, numbered(16, 0));
+    for k in 0..16u8 {
+        store.push(b, numbered(k, k));
+    }
+    for k in 0..15u8 {
+        assert_eq!(rt; store.pop(b), numbered(k, k));
+    }
+    let blank = Message {
+        number: 0,
+        payload: None,
+    };
+    assert_eq!(rt; store.pop(b), blank);
+    assert_eq!(rt; store.count(b), 0);
+}
+
 #[test]
 fn a_relay_answers_the_first_over_both(rt: HostRuntime) {
     assert_eq!(rt;
@@ -96,4 +118,11 @@ fn the_same_boxes_leave_832_to_a_copying_carrier(rt: HostRuntime) {
 fn a_full_carrier_and_a_full_box_refuse_by_33_and_32(rt: HostRuntime) {
     assert_eq!(rt; u8::from(CarrierRefusal::NoSpare), 33);
     assert_eq!(rt; u8::from(CarrierRefusal::FullOrEmpty), 32);
+}
+
+#[test]
+fn both_stores_give_messages_back_in_their_order(rt: HostRuntime) {
+    let b = BoxNumber::try_from(63).unwrap();
+    store_and_return(&rt, &Chained::new(), b);
+    store_and_return(&rt, &Copying::new(), b);
 }

@@ -21,7 +21,7 @@ pub returns-in-Ok : goal.returns-in-Ok
 returns-in-Ok g c =
     let s = c.args.self.now in
     let q = g.S.Store.waiting s.store in
-    let q' = g.S.Store.waiting c.push.new.self in
+    let q' = g.S.Store.waiting c.try_push.new.self in
     let m = c.args.message in
     let l = c.new-limit.result.number in
     let found = c.in_ok-of_open.ensures.answer in
@@ -37,7 +37,7 @@ pub returns-in-Err : goal.returns-in-Err
 returns-in-Err g c =
     let s = c.args.self.now in
     let q = g.S.Store.waiting s.store in
-    let q' = g.S.Store.waiting c.push.new.self in
+    let q' = g.S.Store.waiting c.try_push.new.self in
     let m = c.args.message in
     let l = c.new-limit.result.number in
     let found = c.in_ok-of_open.ensures.answer in

@@ -20,12 +20,12 @@ pub returns : goal.returns
 returns g c =
     let s = c.args.self.now in
     let q = g.S.Store.waiting s.store in
-    let q' = g.S.Store.waiting c.pop.new.self in
+    let q' = g.S.Store.waiting c.try_pop.new.self in
     let found = c.in_ok-of_open.ensures.answer in
     let same = c.in_ok-at.ensures.1 in
     rw c.ok_or.ensures.value
     (record {
       done =
-          take_answered s.limits.limits q s.limits.sizes s.few c.args.b _ found.0 found.1 c.pop.result q'
-          (subst (λ b. MatchOption c.pop.result ((q b ≡ []) × (q' b ≡ [])) (λ m. q b ≡ m ∷ q' b)) same c.pop.ensures.here) (subst (λ b. Others q b q') same c.pop.ensures.others);
+          take_answered s.limits.limits q s.limits.sizes s.few c.args.b _ found.0 found.1 c.try_pop.result q'
+          (subst (λ b. MatchOption c.try_pop.result ((q b ≡ []) × (q' b ≡ [])) (λ m. q b ≡ m ∷ q' b)) same c.try_pop.ensures.here) (subst (λ b. Others q b q') same c.try_pop.ensures.others);
     })

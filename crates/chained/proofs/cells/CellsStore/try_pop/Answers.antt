@@ -1,6 +1,6 @@
 use Rattle.std.proofs.Common.{◌<◌, sym, arith}
 use Rattle.chained.specs.Cells.{take_here, take_others}
-use Rattle.chained.proofs.cells.CellsStore.pop.Goals as goal
+use Rattle.chained.proofs.cells.CellsStore.try_pop.Goals as goal
 
 pub returns : goal.returns
 returns c =

@@ -3,8 +3,8 @@ use Rattle.std.proofs.lemmas.Bool.{false≢true}
 use Rattle.chained.specs.Chains.{count_of}
 use Rattle.chained.specs.Chained.{waiting}
 use Rattle.chained.specs.Cells.{length-waiting, free_cells, free_cell, ranged-set, cell-low, put_here, put_others}
-use Rattle.chained.proofs.cells.CellsStore.push.Goals.{In-Some, then-count-from-via-then-count-from, then-count-from-via-else-count-from+then-not-is_ranged}
-use Rattle.chained.proofs.cells.CellsStore.push.Goals as goal
+use Rattle.chained.proofs.cells.CellsStore.try_push.Goals.{In-Some, then-count-from-via-then-count-from, then-count-from-via-else-count-from+then-not-is_ranged}
+use Rattle.chained.proofs.cells.CellsStore.try_push.Goals as goal
 
 pub returns-then-count-from-clause-answer : goal.returns-then-count-from-clause-answer
 returns-then-count-from-clause-answer c =

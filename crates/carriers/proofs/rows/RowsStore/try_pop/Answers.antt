@@ -1,6 +1,6 @@
 use Rattle.std.proofs.Common.{◌<◌, ◌∷◌, length, sym, ap, ◌∙◌, arith}
 use Rattle.carriers.specs.Waiting.{waiting_at, waiting_here, waiting-others}
-use Rattle.carriers.proofs.rows.RowsStore.pop.Goals as goal
+use Rattle.carriers.proofs.rows.RowsStore.try_pop.Goals as goal
 
 pub returns : goal.returns
 returns c =

@@ -1,7 +1,7 @@
 use Rattle.std.proofs.Common.{◌<◌, [], ◌∷◌, ◌++◌, length, refl, sym, ap, ◌∙◌, arith}
 use Rattle.carriers.specs.Waiting.{waiting_in, waiting-room, waiting_at, waiting_here, waiting-others}
-use Rattle.carriers.proofs.rows.RowsStore.push.Goals.{Else-not-is_ranged}
-use Rattle.carriers.proofs.rows.RowsStore.push.Goals as goal
+use Rattle.carriers.proofs.rows.RowsStore.try_push.Goals.{Else-not-is_ranged}
+use Rattle.carriers.proofs.rows.RowsStore.try_push.Goals as goal
 
 room : (c : Else-not-is_ranged) → length (waiting_in c.args.self.now.rows c.index.result) < c.args.limit.number
 room c =
